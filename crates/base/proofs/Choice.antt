@@ -1,0 +1,47 @@
+-- Rules for `choose`: a value equals a choice if the test is known and the value equals the side that it picks.
+-- `search picks` follows a function's tests through its definition.
+-- Assumes nothing.
+use mathlib.Core.Path.{_≡_, refl}
+use mathlib.Core.Bool.{Bool, true, false}
+use Prim.Native.Nat.{ℕ, _≤_, _<_}
+use lib.Dec.{ltb, leb, eqb}
+use borrow.Author.Tests.{lt-ltb, le-ltb, le-leb, lt-leb, eq-eqb, ne-eqb}
+use Rattle.base.specs.Choice.{choose}
+
+module _ {A : Type 0} where
+  pub yes-flag : (t : Bool) (v x y : A) → t ≡ true → v ≡ x → v ≡ choose t x y
+  unfolding choose
+  yes-flag t v x y p q = rw p q
+
+  pub no-flag : (t : Bool) (v x y : A) → t ≡ false → v ≡ y → v ≡ choose t x y
+  unfolding choose
+  no-flag t v x y p q = rw p q
+
+  pub yes-lt : (a b : ℕ) (v x y : A) → a < b → v ≡ x → v ≡ choose (ltb a b) x y
+  yes-lt a b v x y p = yes-flag (ltb a b) v x y (lt-ltb a b p)
+
+  pub no-lt : (a b : ℕ) (v x y : A) → b ≤ a → v ≡ y → v ≡ choose (ltb a b) x y
+  no-lt a b v x y p = no-flag (ltb a b) v x y (le-ltb a b p)
+
+  pub yes-le : (a b : ℕ) (v x y : A) → a ≤ b → v ≡ x → v ≡ choose (leb a b) x y
+  yes-le a b v x y p = yes-flag (leb a b) v x y (le-leb a b p)
+
+  pub no-le : (a b : ℕ) (v x y : A) → b < a → v ≡ y → v ≡ choose (leb a b) x y
+  no-le a b v x y p = no-flag (leb a b) v x y (lt-leb a b p)
+
+  pub yes-eq : (a b : ℕ) (v x y : A) → a ≡ b → v ≡ x → v ≡ choose (eqb a b) x y
+  yes-eq a b v x y p = yes-flag (eqb a b) v x y (eq-eqb a b p)
+
+  pub no-eq : (a b : ℕ) (v x y : A) → (a ≡ b → ⊥) → v ≡ y → v ≡ choose (eqb a b) x y
+  no-eq a b v x y p = no-flag (eqb a b) v x y (ne-eqb a b p)
+
+  -- a flag that a call answered
+  pub yes-call : (f t : Bool) (v x y : A) → f ≡ t → f ≡ true → v ≡ x → v ≡ choose t x y
+  unfolding choose
+  yes-call f t v x y e p q = rw (← e, p) q
+
+  pub no-call : (f t : Bool) (v x y : A) → f ≡ t → f ≡ false → v ≡ y → v ≡ choose t x y
+  unfolding choose
+  no-call f t v x y e p q = rw (← e, p) q
+
+pub ruleset picks = (yes-flag, no-flag, yes-lt, no-lt, yes-le, no-le, yes-eq, no-eq, yes-call, no-call)

@@ -1,0 +1,195 @@
+// The anti-replay window: a sliding bitmap over 128 lent words that refuses replays and takes messages out of order.
+// The caller keeps `next`, one past the highest committed counter.
+ghost use mathlib.Core.Path.{_≡_};
+ghost use Prim.Native.Nat.{_+_, _-_, _≤_, _<_, _%_};
+ghost use lib.ListN.{length};
+ghost use Rattle.window.specs.Window.{wordOf, bitOf, setBit, clearBit, checkBit, clears, empty, advance, willAccept, Marks, ClearedWords};
+
+// The exclusive limit of counters, which leaves room for the window's arithmetic.
+pub const REJECT_AFTER_MESSAGES: u64 = 18446744073709543423;
+
+const WORD_SIZE: u64 = 64;
+
+const N_WORDS: usize = 128;
+
+const N_BITS: u64 = 8192;
+
+// What committing a counter answers: its verdict (0, 9 or 10; 2 where the words are not 128) and the next expected counter.
+pub struct Marked {
+    pub verdict: u8,
+    pub next: u64,
+}
+
+// The place of the word that holds the bit of `counter`.
+fn word_of(counter: u64) -> usize
+    ensures { λ r. ⌜ r ≡ wordOf counter ⌝ }
+{
+    (counter % N_BITS / WORD_SIZE) as usize
+}
+
+// The place of the bit of `counter` in its word.
+fn bit_of(counter: u64) -> u64
+    ensures { λ r. ⌜ r ≡ bitOf counter ⌝ }
+{
+    counter % WORD_SIZE
+}
+
+// Sets the bit of `counter`.
+fn set_bit(words: &mut [u64], counter: u64)
+    requires { ⌜ length (now words) ≡ 128 ⌝ }
+    ensures { λ r. ⌜ now (words .exit) ≡ setBit (now (words .entry)) counter ⌝ }
+{
+    let word = word_of(counter);
+    let bit = bit_of(counter);
+    words[word] = words[word] | (1 << bit);
+}
+
+// Clears the bit of `counter`.
+fn clear_bit(words: &mut [u64], counter: u64)
+    requires { ⌜ length (now words) ≡ 128 ⌝ }
+    ensures { λ r. ⌜ now (words .exit) ≡ clearBit (now (words .entry)) counter ⌝ }
+{
+    let word = word_of(counter);
+    let bit = bit_of(counter);
+    words[word] = words[word] & !(1 << bit);
+}
+
+// Clears the word that holds the bit of `counter`, which is the word's first.
+fn clear_word(words: &mut [u64], counter: u64)
+    requires { ⌜ (length (now words) ≡ 128) × (counter % 64 ≡ 0) ⌝ }
+    ensures { λ r. ⌜ now (words .exit) ≡ clears (now (words .entry)) counter 64 ⌝ }
+{
+    let word = word_of(counter);
+    words[word] = 0;
+}
+
+// Whether the bit of `counter` is set.
+fn check_bit(words: &[u64], counter: u64) -> bool
+    requires { ⌜ length (now words) ≡ 128 ⌝ }
+    ensures { λ r. ⌜ r ≡ checkBit (now (words .entry)) counter ⌝ }
+{
+    let word = word_of(counter);
+    let bit = bit_of(counter);
+    (words[word] >> bit) % 2 == 1
+}
+
+// Clears the bits of the counters from `from` up to `to`, one by one.
+fn clear_bits(words: &mut [u64], from: u64, to: u64)
+    requires { ⌜ (length (now words) ≡ 128) × (from ≤ to) ⌝ }
+    ensures { λ r. ⌜ now (words .exit) ≡ clears (now (words .entry)) from (to - from) ⌝ }
+{
+    let mut i = from;
+    while i < to {
+        clear_bit(words, i);
+        i = i + 1;
+    }
+}
+
+// Clears whole words from `from`, a word's first counter, while more than a word is left before `to`; answers where it stopped.
+fn clear_words(words: &mut [u64], from: u64, to: u64) -> u64
+    requires { ⌜ (length (now words) ≡ 128) × (from ≤ to) × (from % 64 ≡ 0) × (to < 18446744073709543423) ⌝ }
+    ensures { λ r. ⌜ ClearedWords (now (words .entry)) (now (words .exit)) from to r ⌝ }
+{
+    let mut i = from;
+    while i + WORD_SIZE < to {
+        clear_word(words, i);
+        i = i + WORD_SIZE;
+    }
+    i
+}
+
+// The first counter at or after `from` that begins a word.
+fn word_edge(from: u64) -> u64
+    requires { ⌜ from < 18446744073709543423 ⌝ }
+    ensures { λ r. ⌜ (from ≤ r) × (r % 64 ≡ 0) ⌝ }
+{
+    (from + (WORD_SIZE - 1)) / WORD_SIZE * WORD_SIZE
+}
+
+// Clears every word.
+fn clear_all(words: &mut [u64])
+    requires { ⌜ length (now words) ≡ 128 ⌝ }
+    ensures { λ r. ⌜ now (words .exit) ≡ empty ⌝ }
+{
+    let mut k = 0;
+    while k < words.len() {
+        words[k] = 0;
+        k = k + 1;
+    }
+}
+
+// Clears the counters that `counter` skips, so that a reused place of the bitmap does not look like a replay.
+fn clear_skipped(words: &mut [u64], next: u64, counter: u64)
+    requires { ⌜ (length (now words) ≡ 128) × (next ≤ counter) × (counter < 18446744073709543423) ⌝ }
+    ensures { λ r. ⌜ now (words .exit) ≡ advance (now (words .entry)) next counter ⌝ }
+{
+    if counter - next >= N_BITS {
+        clear_all(words);
+        return;
+    }
+    let edge = word_edge(next);
+    if counter <= edge {
+        clear_bits(words, next, counter);
+        return;
+    }
+    clear_bits(words, next, edge);
+    let rest = clear_words(words, edge, counter);
+    clear_bits(words, rest, counter);
+}
+
+// Whether `counter` is unseen and within the allowed range: 0, 9 or 10.
+pub fn will_accept(words: &[u64], next: u64, counter: u64) -> u8
+    ensures { λ r. ⌜ r ≡ willAccept (now (words .entry)) next counter ⌝ }
+{
+    if words.len() != N_WORDS {
+        return 2;
+    }
+    if counter >= REJECT_AFTER_MESSAGES {
+        return 9;
+    }
+    if counter >= next {
+        return 0;
+    }
+    if counter + N_BITS < next {
+        return 9;
+    }
+    if check_bit(words, counter) {
+        return 10;
+    }
+    0
+}
+
+// Checks `counter` against the window once more and marks it as received.
+pub fn mark_did_receive(words: &mut [u64], next: u64, counter: u64) -> Marked
+    ensures { λ r. ⌜ Marks (now (words .entry)) (now (words .exit)) next counter r ⌝ }
+{
+    if words.len() != N_WORDS {
+        return Marked { verdict: 2, next };
+    }
+    if counter >= REJECT_AFTER_MESSAGES {
+        return Marked { verdict: 9, next };
+    }
+    if counter + N_BITS < next {
+        return Marked { verdict: 9, next };
+    }
+    if counter == next {
+        set_bit(words, counter);
+        return Marked {
+            verdict: 0,
+            next: next + 1,
+        };
+    }
+    if counter < next {
+        if check_bit(words, counter) {
+            return Marked { verdict: 10, next };
+        }
+        set_bit(words, counter);
+        return Marked { verdict: 0, next };
+    }
+    clear_skipped(words, next, counter);
+    set_bit(words, counter);
+    Marked {
+        verdict: 0,
+        next: counter + 1,
+    }
+}
