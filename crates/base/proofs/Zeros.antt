@@ -1,11 +1,17 @@
--- A loop that zeroes a list from the front, one element a turn: where it begins, a turn, and where it ends.
+-- Lists of zeros, and a loop that zeroes a list from the front, one element a turn: where it begins, a turn, and where it ends.
 -- Assumes nothing.
-use mathlib.Core.Path.{_≡_, _∙_}
+use mathlib.Core.Path.{_≡_, refl, _∙_}
 use mathlib.Core.List.{List, _++_, append-nil}
-use Prim.Native.Nat.{ℕ, _+_, _≤_, _<_}
+use Prim.Native.Nat.{ℕ, zero, suc, _+_, _≤_, _<_}
 use native.Mathlib.Omega.{arith}
-use lib.ListN.{length, set, drop, replicate, length-set, drop-of-length-le}
+use lib.ListN.{length, getD, set, drop, replicate, length-set, drop-of-length-le}
 use borrow.Author.Fill.{fill-more, fill-none}
+
+-- every element of a list of zeros, and past its end, reads 0
+pub zeros-at : (n j : ℕ) → _≡_ {A = ℕ} (getD (replicate n 0) j 0) 0
+zeros-at zero j = refl
+zeros-at (suc n) zero = refl
+zeros-at (suc n) (suc j) = zeros-at n j
 
 -- the first `done` of the list's `size` elements are zero, and the rest is as it came
 pub record Zeroed (came now : List ℕ) (size done : ℕ) : Type 0 where

@@ -1,2 +1,5 @@
+pub mod Counted
+pub mod History
+pub mod Ready
 pub mod Steps
 pub mod Words

@@ -16,7 +16,8 @@ use Rattle.base.specs.Choice.{choose}
 use Rattle.base.proofs.Choice.{picks, yes-le, no-le, yes-eq, no-eq}
 use Rattle.base.proofs.Zeros.{Zeroed, zero-ends}
 use Rattle.window.specs.declared.Marked.{Marked}
-use Rattle.window.specs.Window.{limit, wordOf, bitOf, bitAt, checkBit, setBit, clearBit, clears, empty, advance, willAccept, nextAfter, wordsAfter, markDidReceive, Marks}
+use Rattle.window.specs.Window.{wordOf, bitOf, bitAt, checkBit, setBit, clearBit, clears, empty, advance, isInvalid, willAccept, nextAfter, wordsAfter, markDidReceive, Marks}
+use Rattle.window.proofs.Ready.{advance-none}
 use Rattle.window.proofs.Words.{Fitting, clears-add, length-clears, whole-word}
 
 -- the machine's shift by a place of a word is the power of two
@@ -102,13 +103,6 @@ pub all-cleared : (ws now : List ℕ) (k : ℕ) → Zeroed ws now 128 k → leng
 unfolding empty
 all-cleared ws now k z h = zero-ends ws 128 now k z (omega (arith, z .long))
 
--- no counter is skipped by one that is not ahead
-pub advance-none : (ws : List ℕ) (next c : ℕ) → c ≤ next → ws ≡ advance ws next c
-unfolding advance clears
-advance-none ws next c h =
-    let none : c - next ≡ 0 = omega arith in
-    no-le 8192 (c - next) ws empty (clears ws next (c - next)) (omega arith) (rw none)
-
 -- a verdict other than 0 changes nothing; a verdict of 0 sets the counter's bit and may move `next`
 module _ (ws : List ℕ) (next c : ℕ) where
   refused : (v : ℕ) → v ≡ willAccept ws next c → (v ≡ 0 → ⊥) → Marks ws ws next c (record { verdict = v; next = next })
@@ -130,15 +124,11 @@ module _ (ws : List ℕ) (next c : ℕ) where
   way-wrong h = refused 2 (search (picks)) (λ z. omega arith)
 
   module _ (long : length ws ≡ 128) where
-    pub way-limit : limit ≤ c → Marks ws ws next c (record { verdict = 9; next = next })
+    pub way-invalid : (flag : Bool) → flag ≡ isInvalid next c → flag ≡ true → Marks ws ws next c (record { verdict = 9; next = next })
     unfolding willAccept
-    way-limit h = refused 9 (search (picks)) (λ z. omega arith)
+    way-invalid flag f t = refused 9 (search (picks)) (λ z. omega arith)
 
-    module _ (low : c < limit) where
-      pub way-old : c + 8192 < next → Marks ws ws next c (record { verdict = 9; next = next })
-      unfolding willAccept
-      way-old h = let behind : c < next = omega arith in refused 9 (search (picks)) (λ z. omega arith)
-
+    module _ (flag : Bool) (f : flag ≡ isInvalid next c) (low : flag ≡ false) where
       ahead : next ≤ c → 0 ≡ willAccept ws next c
       unfolding willAccept
       ahead h = search (picks)
@@ -149,11 +139,11 @@ module _ (ws : List ℕ) (next c : ℕ) where
       pub way-ahead : (mid last : List ℕ) → next ≤ c → mid ≡ advance ws next c → last ≡ setBit mid c → Marks ws last next c (record { verdict = 0; next = c + 1 })
       way-ahead mid last h m l = taken last (c + 1) (ahead h) (l ∙ ap (λ (x : List ℕ). setBit x c) m) (omega arith)
 
-      module _ (flag : Bool) (near : next ≤ c + 8192) (behind : c < next) (f : flag ≡ checkBit ws c) where
-        pub way-seen : flag ≡ true → Marks ws ws next c (record { verdict = 10; next = next })
+      module _ (set : Bool) (behind : c < next) (g : set ≡ checkBit ws c) where
+        pub way-seen : set ≡ true → Marks ws ws next c (record { verdict = 10; next = next })
         unfolding willAccept
         way-seen t = refused 10 (search (picks)) (λ z. omega arith)
 
-        pub way-late : (last : List ℕ) → flag ≡ false → last ≡ setBit ws c → Marks ws last next c (record { verdict = 0; next = next })
+        pub way-late : (last : List ℕ) → set ≡ false → last ≡ setBit ws c → Marks ws last next c (record { verdict = 0; next = next })
         unfolding willAccept
         way-late last t l = taken last next (search (picks)) (l ∙ ap (λ (x : List ℕ). setBit x c) (advance-none ws next c (omega arith))) (omega arith)

@@ -1,6 +1,6 @@
 -- The anti-replay window of src/replay.rs as the plain rule: 128 words of 64 bits hold one bit for each of the 8,192 counters below `next`.
 use mathlib.Core.Path.{_≡_}
-use mathlib.Core.Bool.{Bool}
+use mathlib.Core.Bool.{Bool, true}
 use mathlib.Core.List.{List}
 use Prim.Native.Nat.{ℕ, zero, suc, _+_, _-_, _*_, _/_, _%_, _^_, _≤_, _<_, max}
 use lib.ListN.{length, getD, set, replicate}
@@ -51,11 +51,15 @@ empty = replicate 128 0
 unfoldable pub advance : List ℕ → ℕ → ℕ → List ℕ
 advance words next counter = choose (leb 8192 (counter - next)) empty (clears words next (counter - next))
 
--- the verdict on a counter: 9 at or above LIMIT or more than 8,192 behind `next`, 10 where its bit is set, else 0; 2 where the words are not 128
+-- whether a counter is at or above LIMIT, or more than 8,192 behind `next`
+unfoldable pub isInvalid : ℕ → ℕ → Bool
+isInvalid next counter = choose (leb limit counter) true (ltb (counter + 8192) next)
+
+-- the verdict on a counter: 9 where it is invalid, 10 where it is behind `next` and its bit is set, else 0; 2 where the words are not 128
 unfoldable pub willAccept : List ℕ → ℕ → ℕ → ℕ
 willAccept words next counter =
     choose (eqb (length words) 128)
-    (choose (leb limit counter) 9 (choose (leb next counter) 0 (choose (ltb (counter + 8192) next) 9 (choose (checkBit words counter) 10 0))))
+    (choose (isInvalid next counter) 9 (choose (leb next counter) 0 (choose (checkBit words counter) 10 0)))
     2
 
 -- the next expected counter after a commit

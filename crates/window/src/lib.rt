@@ -1,9 +1,11 @@
 // The anti-replay window: a sliding bitmap over 128 lent words that refuses replays and takes messages out of order.
 // The caller keeps `next`, one past the highest committed counter.
 ghost use mathlib.Core.Path.{_≡_};
-ghost use Prim.Native.Nat.{_+_, _-_, _≤_, _<_, _%_};
+ghost use mathlib.Core.List.{List};
+ghost use Prim.Native.Nat.{ℕ, _-_, _≤_, _<_, _%_};
 ghost use lib.ListN.{length};
-ghost use Rattle.window.specs.Window.{wordOf, bitOf, setBit, clearBit, checkBit, clears, empty, advance, willAccept, Marks, ClearedWords};
+ghost use Rattle.window.specs.History.{WindowLaw};
+ghost use Rattle.window.specs.Window.{wordOf, bitOf, setBit, clearBit, checkBit, clears, empty, advance, isInvalid, willAccept, Marks, ClearedWords};
 
 // The exclusive limit of counters, which leaves room for the window's arithmetic.
 pub const REJECT_AFTER_MESSAGES: u64 = 18446744073709543423;
@@ -137,6 +139,16 @@ fn clear_skipped(words: &mut [u64], next: u64, counter: u64)
     clear_bits(words, rest, counter);
 }
 
+// Whether `counter` is at or above the limit, or more than 8,192 behind `next`.
+fn is_invalid(next: u64, counter: u64) -> bool
+    ensures { λ r. ⌜ r ≡ isInvalid next counter ⌝ }
+{
+    if counter >= REJECT_AFTER_MESSAGES {
+        return true;
+    }
+    counter + N_BITS < next
+}
+
 // Whether `counter` is unseen and within the allowed range: 0, 9 or 10.
 pub fn will_accept(words: &[u64], next: u64, counter: u64) -> u8
     ensures { λ r. ⌜ r ≡ willAccept (now (words .entry)) next counter ⌝ }
@@ -144,14 +156,11 @@ pub fn will_accept(words: &[u64], next: u64, counter: u64) -> u8
     if words.len() != N_WORDS {
         return 2;
     }
-    if counter >= REJECT_AFTER_MESSAGES {
+    if is_invalid(next, counter) {
         return 9;
     }
     if counter >= next {
         return 0;
-    }
-    if counter + N_BITS < next {
-        return 9;
     }
     if check_bit(words, counter) {
         return 10;
@@ -166,10 +175,7 @@ pub fn mark_did_receive(words: &mut [u64], next: u64, counter: u64) -> Marked
     if words.len() != N_WORDS {
         return Marked { verdict: 2, next };
     }
-    if counter >= REJECT_AFTER_MESSAGES {
-        return Marked { verdict: 9, next };
-    }
-    if counter + N_BITS < next {
+    if is_invalid(next, counter) {
         return Marked { verdict: 9, next };
     }
     if counter == next {
@@ -193,3 +199,8 @@ pub fn mark_did_receive(words: &mut [u64], next: u64, counter: u64) -> Marked
         next: counter + 1,
     }
 }
+
+// What holds of every window grown from zero words and next 0 by any list of counters.
+pub fn window_law()
+    ensures { λ r. ⌜ ((counters : List ℕ) → WindowLaw counters) ⌝ }
+{}

@@ -1,0 +1,124 @@
+-- The words made ready for a counter: what `advance` leaves in each case, how many words, and that they fit; and the same of a commit.
+-- Assumes nothing.
+use mathlib.Core.Path.{_≡_, refl, ap, sym, _∙_}
+use mathlib.Core.Bool.{Bool, true, false, true≢false}
+use mathlib.Core.List.{List}
+use Prim.Native.Nat.{ℕ, _+_, _-_, _^_, _≤_, _<_, max}
+use native.Mathlib.Decide.{ℕ-discrete, decLe}
+use native.Mathlib.Omega.{arith}
+use lib.Dec.{eqb, ltb}
+use mir.Syntax.{w64}
+use mir.Val.{Fits}
+use lib.ListN.{length, getD}
+use borrow.Author.Tests.{eqb-true, le-ltb, ltb-false}
+use Rattle.base.specs.Choice.{choose}
+use Rattle.base.proofs.Choice.{picks, yes-le, no-le}
+use Rattle.base.proofs.Zeros.{zeros-at}
+use Rattle.window.specs.Window.{limit, setBit, clears, empty, advance, isInvalid, willAccept, nextAfter, wordsAfter}
+use Rattle.window.proofs.Words.{Fitting, length-setBit, length-clears, clears-fits}
+
+pub empty-fits : Fitting empty
+unfolding empty
+empty-fits j = rw (zeros-at 128 j) (omega arith)
+
+length-empty : length empty ≡ 128
+unfolding empty
+length-empty = refl
+
+-- what is invalid, by the tests of the code
+module _ (next c : ℕ) where
+  pub invalid-limit : limit ≤ c → true ≡ isInvalid next c
+  unfolding isInvalid
+  invalid-limit h = yes-le limit c true true (ltb (c + 8192) next) h refl
+
+  pub invalid-old : c < limit → ltb (c + 8192) next ≡ isInvalid next c
+  unfolding isInvalid
+  invalid-old h = no-le limit c (ltb (c + 8192) next) true (ltb (c + 8192) next) h refl
+
+  -- a valid counter is one below LIMIT and at most 8,192 behind
+  pub valid : c < limit → next ≤ c + 8192 → isInvalid next c ≡ false
+  valid l h = sym (invalid-old l) ∙ le-ltb (c + 8192) next h
+
+  pub valid-only : isInvalid next c ≡ false → (c < limit) × (next ≤ c + 8192)
+  valid-only e = elim (decLe limit c) [
+    | yes l ↦ (let z : _≡_ {A = Bool} true false = invalid-limit l ∙ e in absurd (true≢false z))
+    | no n ↦ (omega arith, ltb-false (c + 8192) next (invalid-old (omega arith) ∙ e))
+  ]
+
+-- what the code may add once a counter is not invalid
+module _ (next c : ℕ) (flag : Bool) (f : flag ≡ isInvalid next c) (low : flag ≡ false) where
+  pub below-limit : c < limit
+  below-limit = valid-only next c (sym f ∙ low) .0
+
+  pub fits-counter : Fits w64 (c + 1)
+  fits-counter = omega (arith, below-limit)
+
+  pub fits-next : c ≡ next → Fits w64 (next + 1)
+  fits-next e = omega (arith, below-limit)
+
+module _ (words : List ℕ) (next c : ℕ) where
+  -- no counter is skipped by one that is not ahead
+  pub advance-none : c ≤ next → words ≡ advance words next c
+  unfolding advance clears
+  advance-none h =
+      let none : c - next ≡ 0 = omega arith in
+      no-le 8192 (c - next) words empty (clears words next (c - next)) (omega arith) (rw none)
+
+  pub advance-near : next ≤ c → c - next < 8192 → advance words next c ≡ clears words next (c - next)
+  unfolding advance
+  advance-near l h = sym (no-le 8192 (c - next) _ _ _ h refl)
+
+  pub advance-far : 8192 ≤ c - next → advance words next c ≡ empty
+  unfolding advance
+  advance-far h = sym (yes-le 8192 (c - next) _ _ _ h refl)
+
+  -- whatever holds of the empty words and of words with a run of counters cleared holds of the words made ready
+  ready : (P : List ℕ → Type 0) → P empty → ((count : ℕ) → P (clears words next count)) → P (advance words next c)
+  unfolding clears
+  ready P far near = elim (decLe 8192 (c - next)) [
+    | yes m ↦ rw (advance-far m) far
+    | no n ↦ elim (decLe c next) [ yes m ↦ rw (← advance-none m) (near 0) | no k ↦ rw (advance-near (omega arith) (omega arith)) (near (c - next)) ]
+  ]
+
+  pub length-advance : length words ≡ 128 → length (advance words next c) ≡ 128
+  length-advance long = ready (λ ws. length ws ≡ 128) length-empty (λ count. length-clears words next count ∙ long)
+
+  pub advance-fits : Fitting words → Fitting (advance words next c)
+  advance-fits f = ready Fitting empty-fits (λ count. clears-fits words next count f)
+
+  -- only 128 words take a commit
+  zero-long : willAccept words next c ≡ 0 → length words ≡ 128
+  unfolding willAccept
+  zero-long z = elim (ℕ-discrete (length words) 128) [
+    | yes e ↦ e
+    | no d ↦ (let two : 2 ≡ willAccept words next c = search (picks) in absurd (omega arith))
+  ]
+
+  -- only a valid counter is committed
+  zero-valid : willAccept words next c ≡ 0 → (b : Bool) → isInvalid next c ≡ b → b ≡ false
+  unfolding willAccept
+  zero-valid z false e = refl
+  zero-valid z true e =
+      let long : length words ≡ 128 = zero-long z in
+      let nine : 9 ≡ willAccept words next c = search (picks) in
+      absurd (omega arith)
+
+  -- a commit keeps the number of words
+  pub length-wordsAfter : length (wordsAfter words next c) ≡ length words
+  unfolding wordsAfter choose
+  length-wordsAfter = go (eqb (willAccept words next c) 0) refl
+    where
+      go : (b : Bool) → eqb (willAccept words next c) 0 ≡ b → length (wordsAfter words next c) ≡ length words
+      go false e = rw e
+      go true e =
+          let long : length words ≡ 128 = zero-long (eqb-true (willAccept words next c) 0 e) in
+          rw e (length-setBit (advance words next c) c ∙ length-advance long ∙ sym long)
+
+  -- a commit keeps the next expected counter at most LIMIT
+  pub nextAfter-limit : next ≤ limit → nextAfter words next c ≤ limit
+  unfolding nextAfter choose
+  nextAfter-limit h = go (eqb (willAccept words next c) 0) refl
+    where
+      go : (b : Bool) → eqb (willAccept words next c) 0 ≡ b → nextAfter words next c ≤ limit
+      go false e = rw e h
+      go true e = rw e (omega (arith, valid-only next c (zero-valid (eqb-true (willAccept words next c) 0 e) (isInvalid next c) refl) .0))

@@ -1,0 +1,96 @@
+-- What a window grown from nothing by any list of counters does, said of the counters themselves and not of words or bits.
+use mathlib.Core.Path.{_≡_}
+use mathlib.Core.Bool.{Bool, true, false}
+use mathlib.Core.List.{List, [], _∷_}
+use Prim.Native.Nat.{ℕ, _+_, _-_, _≤_, _<_, _^_, min, max}
+use lib.Count.{ones}
+use lib.Dec.{ltb, leb, eqb}
+use lib.ListN.{length, getD}
+use Rattle.base.specs.Choice.{choose}
+use Rattle.base.specs.Sums.{sum}
+use Rattle.window.specs.Window.{limit, bitAt, empty, isInvalid, willAccept, nextAfter, wordsAfter}
+
+-- whether a counter is in a history
+unfoldable pub member : ℕ → List ℕ → Bool
+member counter [] = false
+member counter (x ∷ history) = choose (eqb counter x) true (member counter history)
+
+-- the next expected counter: one more than the greatest in the history, or 0
+unfoldable pub expected : List ℕ → ℕ
+expected [] = 0
+expected (x ∷ history) = max (x + 1) (expected history)
+
+-- the verdict on a counter after a history: 0 exactly if it is below LIMIT, at most 8,192 behind the next expected one and not in the history
+unfoldable pub judged : List ℕ → ℕ → ℕ
+judged history counter =
+    choose (isInvalid (expected history) counter) 9 (choose (member counter history) 10 0)
+
+-- the history with a counter, if it is committed
+unfoldable pub committing : List ℕ → ℕ → List ℕ
+committing history counter = choose (eqb (judged history counter) 0) (counter ∷ history) history
+
+-- 1 where a counter is in the history, else 0
+unfoldable pub seen : List ℕ → ℕ → ℕ
+seen history counter = choose (member counter history) 1 0
+
+-- how many of the last 8,192 counters below the next expected one, or of all where there are fewer, are in the history
+unfoldable pub amongLast : List ℕ → ℕ
+amongLast history = sum (λ k. seen history (expected history - 8192 + k)) (min (expected history) 8192)
+
+-- the number of ones in the words
+unfoldable pub onesOf : List ℕ → ℕ
+onesOf [] = 0
+onesOf (w ∷ words) = ones w + onesOf words
+
+-- the bit that a place of the bitmap has for a counter that is yet to come: whether the counter 8,192 before it is in the history
+unfoldable pub past : List ℕ → ℕ → ℕ
+past history counter = choose (leb 8192 counter) (seen history (counter - 8192)) 0
+
+-- words and a next expected counter that stand for a history
+pub record Represents (history words : List ℕ) (next : ℕ) : Type 0 where
+  pub long : length words ≡ 128
+  pub fitting : (j : ℕ) → getD words j 0 < 2 ^ 64
+  pub expects : next ≡ expected history
+  pub bits : (y : ℕ) → next ≤ y → y < next + 8192 → bitAt words y ≡ past history y
+
+-- a window: its words and its next expected counter
+pub record Window : Type 0 where
+  pub words : List ℕ
+  pub next : ℕ
+
+-- the fresh window
+unfoldable pub fresh : Window
+fresh = record { words = empty; next = 0 }
+
+-- the verdict of a window on a counter
+unfoldable pub verdict : Window → ℕ → ℕ
+verdict window counter = willAccept (window .words) (window .next) counter
+
+-- the window after a counter was given to it
+unfoldable pub given : Window → ℕ → Window
+given window counter =
+    record { words = wordsAfter (window .words) (window .next) counter; next = nextAfter (window .words) (window .next) counter }
+
+-- the window after a list of counters was given to a fresh one; the last given stands first
+unfoldable pub grown : List ℕ → Window
+grown [] = fresh
+grown (counter ∷ counters) = given (grown counters) counter
+
+-- the counters that were given verdict 0, by what the windows answered
+unfoldable pub committed : List ℕ → List ℕ
+committed [] = []
+committed (counter ∷ counters) = choose (eqb (verdict (grown counters) counter) 0) (counter ∷ committed counters) (committed counters)
+
+-- For every list of counters given to a fresh window:
+pub record WindowLaw (counters : List ℕ) : Type 0 where
+  -- a counter's verdict is the one that the committed counters call for
+  pub judges : (counter : ℕ) → verdict (grown counters) counter ≡ judged (committed counters) counter
+  -- it commits exactly if it is below LIMIT, at most 8,192 behind next and was not committed before
+  pub commits : (counter : ℕ) → counter < limit → grown counters .next ≤ counter + 8192 → member counter (committed counters) ≡ false
+      → verdict (grown counters) counter ≡ 0
+  pub only : (counter : ℕ) → verdict (grown counters) counter ≡ 0
+      → (counter < limit) × (grown counters .next ≤ counter + 8192) × (member counter (committed counters) ≡ false)
+  -- next is one more than the greatest committed counter, or 0
+  pub expects : grown counters .next ≡ expected (committed counters)
+  -- the set bits are as many as there are committed counters among the last 8,192 below next
+  pub counts : onesOf (grown counters .words) ≡ amongLast (committed counters)
