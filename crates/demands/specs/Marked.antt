@@ -1,0 +1,70 @@
+-- The marked cases of document 01, in one table: what is set up, what is called, what must come out.
+use mathlib.Core.Bool.{Bool, true, false}
+use mathlib.Core.List.{List, [], _∷_}
+use Prim.Native.Nat.{ℕ, _-_}
+use lib.Dec.{eqb}
+use Rattle.base.specs.Choice.{choose}
+use Rattle.window.specs.Window.{limit, empty, setBit}
+use Rattle.window.specs.History.{Window, verdict, given}
+
+-- both tests hold
+abbrev pub both : Bool → Bool → Bool
+both a b = choose a b false
+
+-- two lists of numbers are the same
+unfoldable pub same : List ℕ → List ℕ → Bool
+same [] [] = true
+same [] (y ∷ ys) = false
+same (x ∷ xs) [] = false
+same (x ∷ xs) (y ∷ ys) = both (eqb x y) (same xs ys)
+
+-- a window that stands at `next` with just these counters committed
+unfoldable pub standing : ℕ → List ℕ → Window
+standing next [] = record { words = empty; next = next }
+standing next (counter ∷ committed) = record { words = setBit (standing next committed .words) counter; next = next }
+
+-- two windows are the same
+unfoldable pub sameWindow : Window → Window → Bool
+sameWindow v w = both (eqb (v .next) (w .next)) (same (v .words) (w .words))
+
+-- the window after counters were given to it, the first given first
+unfoldable pub after : Window → List ℕ → Window
+after window [] = window
+after window (counter ∷ counters) = after (given window counter) counters
+
+-- the verdicts that a window gives to counters one after the other
+unfoldable pub verdicts : Window → List ℕ → List ℕ
+verdicts window [] = []
+verdicts window (counter ∷ counters) = verdict window counter ∷ verdicts (given window counter) counters
+
+-- a marked case
+pub data Case : Type 0 where
+  -- a window that stands at `next` with just `committed` committed is given `counters`, answers `answers`, and then stands at `nextThen`
+  -- with just `committedThen` committed
+  onWindow : (next : ℕ) (committed counters answers : List ℕ) (nextThen : ℕ) (committedThen : List ℕ) → Case
+
+-- what a case says, as a test
+unfoldable pub holds : Case → Bool
+holds (onWindow next committed counters answers nextThen committedThen) =
+    both (same (verdicts (standing next committed) counters) answers)
+    (sameWindow (after (standing next committed) counters) (standing nextThen committedThen))
+
+-- every case of a table
+unfoldable pub holdAll : List Case → Bool
+holdAll [] = true
+holdAll (row ∷ table) = both (holds row) (holdAll table)
+
+-- the table
+unfoldable pub marked : List Case
+marked =
+    -- M1: fresh window, 0 commits; 0 again gives 10
+    onWindow 0 [] (0 ∷ 0 ∷ []) (0 ∷ 10 ∷ []) 1 (0 ∷ [])
+    -- M2: next 8,192, none but 8,191 committed: 0 commits
+    ∷ onWindow 8192 (8191 ∷ []) (0 ∷ []) (0 ∷ []) 8192 (8191 ∷ 0 ∷ [])
+    -- M3: next 8,193, only 8,192 committed: 0 gives 9, 1 commits
+    ∷ onWindow 8193 (8192 ∷ []) (0 ∷ 1 ∷ []) (9 ∷ 0 ∷ []) 8193 (8192 ∷ 1 ∷ [])
+    -- M4: fresh window, LIMIT gives 9; LIMIT - 1 commits
+    ∷ onWindow 0 [] (limit ∷ (limit - 1) ∷ []) (9 ∷ 0 ∷ []) limit ((limit - 1) ∷ [])
+    -- M5: next 6, 8,198 commits and clears all; then 6 gives 9 and 7 commits
+    ∷ onWindow 6 (0 ∷ 1 ∷ 2 ∷ 3 ∷ 4 ∷ 5 ∷ []) (8198 ∷ 6 ∷ 7 ∷ []) (0 ∷ 9 ∷ 0 ∷ []) 8199 (8198 ∷ 7 ∷ [])
+    ∷ []
