@@ -1,0 +1,85 @@
+//! Runs two programs on the same scripts and compares their answers line by line:
+//! compare A B [--seeds FROM..TO] [--exhaustive N] [--lines M] [--stop] [--no-cut]
+
+use std::env;
+use std::process::ExitCode;
+
+use compare::{Comparison, Exhaustive, Script, make_script, profile_name};
+
+/// What to compare.
+struct Options {
+    programs: [String; 2],
+    seeds: (u64, u64),
+    exhaustive: u32,
+    lines: usize,
+    stop: bool,
+    cut: bool,
+}
+
+fn main() -> ExitCode {
+    let Some(options) = options() else {
+        eprintln!(
+            "usage: compare A B [--seeds FROM..TO] [--exhaustive N] [--lines M] [--stop] [--no-cut]"
+        );
+        return ExitCode::from(2);
+    };
+
+    let (from, to) = options.seeds;
+    let scripts = (from..to).map(|seed| of_seed(seed, options.lines)).chain(
+        Exhaustive::new(options.exhaustive)
+            .enumerate()
+            .map(|(at, script)| (format!("word {at}"), script)),
+    );
+    let [a, b] = &options.programs;
+    let mut comparison = Comparison::new([a, b], options.stop, options.cut);
+
+    comparison.go_through(scripts);
+    comparison.report();
+
+    ExitCode::from(u8::from(comparison.differences() > 0))
+}
+
+/// The script of a seed with the name it is reported by.
+fn of_seed(seed: u64, lines: usize) -> (String, Script) {
+    let name = format!("seed {seed} ({})", profile_name(seed));
+
+    (name, make_script(seed, lines))
+}
+
+/// Reads the arguments, or nothing where they are not as they should be.
+fn options() -> Option<Options> {
+    let mut arguments = env::args().skip(1);
+    let mut options = Options {
+        programs: [arguments.next()?, arguments.next()?],
+        seeds: (0, 0),
+        exhaustive: 0,
+        lines: 150,
+        stop: false,
+        cut: true,
+    };
+    let mut chosen = false;
+
+    while let Some(name) = arguments.next() {
+        match name.as_str() {
+            "--seeds" => {
+                let value = arguments.next()?;
+                let (from, to) = value.split_once("..")?;
+                options.seeds = (from.parse().ok()?, to.parse().ok()?);
+                chosen = true;
+            }
+            "--exhaustive" => {
+                options.exhaustive = arguments.next()?.parse().ok()?;
+                chosen = true;
+            }
+            "--lines" => options.lines = arguments.next()?.parse().ok()?,
+            "--stop" => options.stop = true,
+            "--no-cut" => options.cut = false,
+            _ => return None,
+        }
+    }
+    if !chosen {
+        options.seeds = (0, 1_000);
+    }
+
+    Some(options)
+}

@@ -1,0 +1,79 @@
+//! Counts what a run has met.
+
+use std::collections::BTreeMap;
+use std::fmt;
+
+/// Counts of call words, refusal numbers, events and verdicts.
+#[derive(Default)]
+pub struct Tally {
+    calls: u64,
+    words: BTreeMap<String, u64>,
+    refusals: BTreeMap<u64, u64>,
+    events: BTreeMap<String, u64>,
+    verdicts: BTreeMap<u64, u64>,
+}
+
+impl Tally {
+    /// Counts one line and the answer that both programs gave to it.
+    pub fn count(&mut self, line: &[u8], answer: &[u8]) {
+        self.calls += 1;
+        let word = word_of(line);
+        let answer = String::from_utf8_lossy(answer);
+        let mut parts = answer.split(' ');
+
+        match (parts.next(), word.as_str()) {
+            (Some("no"), _) => {
+                let number = parts.next().and_then(|number| number.parse().ok());
+                *self.refusals.entry(number.unwrap_or(0)).or_default() += 1;
+            }
+            (Some("ok"), "event") => {
+                let kind = parts.next().unwrap_or_default().to_string();
+                *self.events.entry(kind).or_default() += 1;
+            }
+            (Some("ok"), "recv") => {
+                for verdict in parts.filter_map(|verdict| verdict.parse().ok()) {
+                    *self.verdicts.entry(verdict).or_default() += 1;
+                }
+            }
+            _ => {}
+        }
+        *self.words.entry(word).or_default() += 1;
+    }
+
+    /// The number of lines counted.
+    pub fn calls(&self) -> u64 {
+        self.calls
+    }
+}
+
+/// The name of a line's call, or a word for a line that cannot be read.
+fn word_of(line: &[u8]) -> String {
+    if oracle::read(line).is_none() {
+        return "unreadable".to_string();
+    }
+    let text = String::from_utf8_lossy(line);
+
+    text.split([' ', '\t', '\r'])
+        .find(|word| !word.is_empty())
+        .unwrap_or_default()
+        .to_string()
+}
+
+impl fmt::Display for Tally {
+    fn fmt(&self, f: &mut fmt::Formatter<'_>) -> fmt::Result {
+        writeln!(f, "calls:    {}", list(&self.words))?;
+        writeln!(f, "refusals: {}", list(&self.refusals))?;
+        writeln!(f, "events:   {}", list(&self.events))?;
+        write!(f, "verdicts: {}", list(&self.verdicts))
+    }
+}
+
+/// Names with their counts on one line.
+fn list<K: fmt::Display>(counts: &BTreeMap<K, u64>) -> String {
+    let parts: Vec<String> = counts
+        .iter()
+        .map(|(name, count)| format!("{name} {count}"))
+        .collect();
+
+    parts.join(", ")
+}

@@ -1,0 +1,618 @@
+//! Answers each call of a script with the original tunnel, and adds document 01's checks 1, 2
+//! and 13, the greatest time and the missing report.
+
+use std::fmt;
+use std::num::NonZeroUsize;
+use std::sync::Arc;
+use std::time::{Duration, Instant};
+
+use rand::SeedableRng;
+use rand::rngs::StdRng;
+use zeroize::Zeroizing;
+
+use crate::crypto;
+use crate::errors::Error;
+use crate::index::Index;
+use crate::keys::{PublicKey, StaticSecret};
+use crate::message::{
+    CookieReply, Datagram, HandshakeInitiation, HandshakeResponse, InnerHandshakeInitiation,
+    ReplayCheck, TransportData,
+};
+use crate::script::{self, Call, Opening};
+use crate::session::access::{SessionView, decrypted_batch};
+use crate::session::{PendingEncapsulate, Plaintext};
+use crate::tai64n::{Tai64N, TimeStamper};
+use crate::timers::{MAX_JITTER, REJECT_AFTER_MESSAGES};
+use crate::tunnel::{Event, Tunnel, TunnelConfig};
+
+/// The greatest time that a call may give, in nanoseconds.
+const TIME_LIMIT: u64 = 4_000_000_000_000_000_000;
+/// The greatest interval of the persistent keepalive, in seconds.
+const MAX_KEEPALIVE: u64 = 65_535;
+/// The greatest number of messages in a batch.
+const MAX_BATCH: usize = 1_024;
+/// The number of bits of a window.
+const WINDOW: u32 = 8_192;
+
+/// The number that turns a call down.
+pub type Number = u8;
+
+const TIME_ABOVE_LIMIT: Number = 1;
+const BAD_ARGUMENT: Number = 2;
+const WRONG_KEY: u64 = 3;
+const REPLAYED: u64 = 4;
+const PREDATES: u64 = 5;
+const OPENING_FAILED: u64 = 7;
+const NO_SESSION: Number = 12;
+const TIME_WENT_BACK: Number = 13;
+
+/// The good answer to a call.
+#[derive(Debug, Clone, PartialEq, Eq)]
+pub enum Answer {
+    Good,
+    None,
+    Initiation { local: u32 },
+    Response { local: u32, peer: u32 },
+    Keepalive { peer: u32, counter: u64 },
+    Range((u32, u64, u64)),
+    Ranges((u32, u64, u64), (u32, u64, u64)),
+    Verdicts(Vec<Number>),
+    Established { started: u64, confirmed: u64 },
+    Expired,
+    At(u64),
+    Missing(u32),
+}
+
+impl fmt::Display for Answer {
+    fn fmt(&self, f: &mut fmt::Formatter<'_>) -> fmt::Result {
+        match self {
+            Answer::Good => write!(f, "ok"),
+            Answer::None => write!(f, "ok none"),
+            Answer::Initiation { local } => write!(f, "ok init {local}"),
+            Answer::Response { local, peer } => write!(f, "ok resp {local} {peer}"),
+            Answer::Keepalive { peer, counter } => write!(f, "ok key {peer} {counter}"),
+            Answer::Range((p, c, l)) => write!(f, "ok range {p} {c} {l}"),
+            Answer::Ranges((p, c, l), (q, d, m)) => write!(f, "ok range {p} {c} {l} {q} {d} {m}"),
+            Answer::Verdicts(verdicts) => {
+                write!(f, "ok")?;
+                verdicts
+                    .iter()
+                    .try_for_each(|verdict| write!(f, " {verdict}"))
+            }
+            Answer::Established { started, confirmed } => write!(f, "ok est {started} {confirmed}"),
+            Answer::Expired => write!(f, "ok exp"),
+            Answer::At(time) => write!(f, "ok at {time}"),
+            Answer::Missing(count) => write!(f, "ok missing {count}"),
+        }
+    }
+}
+
+/// What a script drives: nothing before the first `new`, then a tunnel.
+pub struct Driver {
+    base: Instant,
+    held: Option<Held>,
+}
+
+/// A tunnel and the greatest time it was given.
+struct Held {
+    tunnel: Tunnel,
+    base: Instant,
+    greatest: u64,
+}
+
+impl Default for Driver {
+    fn default() -> Self {
+        Self::new()
+    }
+}
+
+impl Driver {
+    /// Holds no tunnel yet; the only place where a clock is read.
+    pub fn new() -> Self {
+        Self {
+            base: Instant::now(),
+            held: None,
+        }
+    }
+
+    /// Answers one line, given without its newline.
+    pub fn answer(&mut self, line: &[u8]) -> Result<Answer, Number> {
+        let call = script::read(line).ok_or(BAD_ARGUMENT)?;
+
+        self.call(call)
+    }
+
+    /// Answers one call; before the first `new` every other call is turned down.
+    pub fn call(&mut self, call: Call) -> Result<Answer, Number> {
+        if let Call::New {
+            index,
+            keepalive,
+            time,
+        } = call
+        {
+            return self.create(index, keepalive, time);
+        }
+
+        self.held.as_mut().ok_or(BAD_ARGUMENT)?.call(call)
+    }
+
+    /// Creates a tunnel; turned down, it leaves the one from index 0, no keepalive and time 0.
+    fn create(&mut self, index: u32, keepalive: u64, time: u64) -> Result<Answer, Number> {
+        self.held = Some(Held::new(self.base, 0, 0, 0));
+
+        within_limit(time)?;
+        if keepalive > MAX_KEEPALIVE {
+            return Err(BAD_ARGUMENT);
+        }
+        self.held = Some(Held::new(self.base, index, keepalive, time));
+
+        Ok(Answer::Good)
+    }
+
+    /// What can be seen of the tunnel, for whoever makes scripts.
+    pub fn view(&self) -> Option<View> {
+        self.held.as_ref().map(Held::view)
+    }
+}
+
+impl Held {
+    /// A new tunnel; a keepalive of 0 means none.
+    fn new(base: Instant, index: u32, keepalive: u64, time: u64) -> Self {
+        let config =
+            TunnelConfig::default().with_persistent_keepalive(Duration::from_secs(keepalive));
+        let mut rng = StdRng::from_seed([0; 32]);
+        crypto::set_opening_fails(false);
+        let tunnel = Tunnel::new(
+            StaticSecret::from(Zeroizing::new([0; 32])),
+            peer_key(),
+            config,
+            Index::from_peer(index),
+            Arc::new(()),
+            Arc::new(()),
+            &mut rng,
+            base + Duration::from_nanos(time),
+            TimeStamper::new(base, Duration::ZERO),
+        );
+
+        Self {
+            tunnel: tunnel.expect("a creation that passed its checks is good"),
+            base,
+            greatest: time,
+        }
+    }
+
+    /// Answers any call but `new`.
+    fn call(&mut self, call: Call) -> Result<Answer, Number> {
+        match call {
+            Call::New { .. } => unreachable!("the driver answers `new`"),
+            Call::Init { time } => self.init(time),
+            Call::Restart { time } => self.restart(time),
+            Call::Resp {
+                receiver,
+                peer,
+                outcome,
+                time,
+            } => self.resp(receiver, peer, outcome, time),
+            Call::Hello {
+                peer,
+                outcome,
+                time,
+            } => self.hello(peer, outcome, time),
+            Call::Cookie {
+                receiver,
+                outcome,
+                time,
+            } => self.cookie(receiver, outcome, time),
+            Call::Send { count, time } => self.send(count, time),
+            Call::Recv {
+                index,
+                session,
+                time,
+                messages,
+            } => self.recv(index, session, time, messages),
+            Call::Look {
+                index,
+                counter,
+                time,
+            } => self.look(index, counter, time),
+            Call::Wake { jitter, time } => self.wake(jitter, time),
+            Call::Event => Ok(self.event()),
+            Call::Next => Ok(self.next()),
+            Call::Missing { index } => self.missing(index),
+            Call::Split {
+                peer,
+                first,
+                length,
+                at,
+            } => split(peer, first, length, at),
+        }
+    }
+
+    /// Starts a handshake; while one is under way or once expired, only the greatest time rises.
+    fn init(&mut self, time: u64) -> Result<Answer, Number> {
+        within_limit(time)?;
+        self.not_back(time)?;
+
+        let initiation = self.tunnel.initiate_handshake(self.instant(time));
+        self.greatest = time;
+
+        Ok(initiation.map_or(Answer::None, |datagram| initiation_answer(&datagram)))
+    }
+
+    /// Starts a handshake anew; once expired, only the greatest time rises.
+    fn restart(&mut self, time: u64) -> Result<Answer, Number> {
+        within_limit(time)?;
+        self.not_back(time)?;
+
+        let initiation = self.tunnel.restart_handshake(self.instant(time));
+        self.greatest = time;
+
+        Ok(initiation.map_or(Answer::None, |datagram| initiation_answer(&datagram)))
+    }
+
+    /// Takes a response to an initiation; the outcome is good or 7.
+    fn resp(
+        &mut self,
+        receiver: u32,
+        peer: u32,
+        outcome: u64,
+        time: u64,
+    ) -> Result<Answer, Number> {
+        within_limit(time)?;
+        outcome_among(outcome, &[OPENING_FAILED])?;
+        self.not_back(time)?;
+
+        crypto::set_opening_fails(outcome == OPENING_FAILED);
+        let response = HandshakeResponse {
+            sender_idx: peer,
+            receiver_idx: receiver,
+            unencrypted_ephemeral: [0; 32],
+            encrypted_nothing: [0; 16],
+        };
+        let keepalive = self
+            .tunnel
+            .handle_handshake_response(response, self.instant(time));
+        crypto::set_opening_fails(false);
+        let keepalive = keepalive.map_err(Error::number)?;
+        self.greatest = time;
+
+        Ok(keepalive_answer(&keepalive))
+    }
+
+    /// Takes an incoming initiation; the outcome is good, 3, 4, 5 or 7.
+    fn hello(&mut self, peer: u32, outcome: u64, time: u64) -> Result<Answer, Number> {
+        within_limit(time)?;
+        outcome_among(outcome, &[WRONG_KEY, REPLAYED, PREDATES, OPENING_FAILED])?;
+        self.not_back(time)?;
+
+        crypto::set_opening_fails(outcome == OPENING_FAILED);
+        let response = self
+            .tunnel
+            .handle_handshake_initiation(incoming_initiation(peer, outcome), self.instant(time));
+        crypto::set_opening_fails(false);
+        let response = response.map_err(Error::number)?;
+        self.greatest = time;
+
+        Ok(Answer::Response {
+            local: number_at(&response, 4),
+            peer: number_at(&response, 8),
+        })
+    }
+
+    /// Takes a cookie reply; the outcome is good or 7.
+    fn cookie(&mut self, receiver: u32, outcome: u64, time: u64) -> Result<Answer, Number> {
+        within_limit(time)?;
+        outcome_among(outcome, &[OPENING_FAILED])?;
+        self.not_back(time)?;
+
+        crypto::set_opening_fails(outcome == OPENING_FAILED);
+        let reply = CookieReply {
+            receiver_idx: receiver,
+            nonce: [0; 24],
+            encrypted_cookie: [0; 32],
+        };
+        let stored = self.tunnel.handle_cookie_reply(reply, self.instant(time));
+        crypto::set_opening_fails(false);
+        stored.map_err(Error::number)?;
+        self.greatest = time;
+
+        Ok(Answer::Good)
+    }
+
+    /// Grants a range; a session with too few counters left (12) still raises the greatest time.
+    fn send(&mut self, count: u64, time: u64) -> Result<Answer, Number> {
+        within_limit(time)?;
+        let count = NonZeroUsize::new(count as usize).ok_or(BAD_ARGUMENT)?;
+        self.not_back(time)?;
+
+        let now = self.instant(time);
+        let batch = self.tunnel.begin_encapsulate(now).map_err(Error::number)?;
+        self.greatest = time;
+        let range = batch.finish(count).map_err(Error::number)?;
+
+        Ok(Answer::Range(range.range()))
+    }
+
+    /// Commits a batch and gives a verdict on each message.
+    fn recv(
+        &mut self,
+        index: u32,
+        session: u64,
+        time: u64,
+        messages: Vec<(u64, Opening)>,
+    ) -> Result<Answer, Number> {
+        within_limit(time)?;
+        if messages.len() > MAX_BATCH {
+            return Err(BAD_ARGUMENT);
+        }
+        self.not_back(time)?;
+
+        let messages = messages.into_iter().map(opened).collect();
+        let batch = decrypted_batch(index, session, messages);
+        let committed = self
+            .tunnel
+            .commit_decapsulate(batch, self.instant(time))
+            .map_err(Error::number)?;
+        self.greatest = time;
+
+        Ok(Answer::Verdicts(
+            committed
+                .map(|message| message.map_or_else(Error::number, |_| 0))
+                .collect(),
+        ))
+    }
+
+    /// Looks at a counter without committing it; nothing changes, not even the greatest time.
+    fn look(&self, index: u32, counter: u64, time: u64) -> Result<Answer, Number> {
+        within_limit(time)?;
+        self.not_back(time)?;
+
+        let message = TransportData {
+            receiver_idx: index,
+            counter,
+        };
+        let batch = self
+            .tunnel
+            .begin_decapsulate(message, self.instant(time))
+            .map_err(Error::number)?;
+        let _ = batch.finish();
+
+        Ok(Answer::Good)
+    }
+
+    /// Wakes the tunnel; once expired, only the greatest time rises.
+    fn wake(&mut self, jitter: u64, time: u64) -> Result<Answer, Number> {
+        within_limit(time)?;
+        let jitter = Duration::from_nanos(jitter);
+        if jitter > MAX_JITTER {
+            return Err(BAD_ARGUMENT);
+        }
+        self.not_back(time)?;
+
+        rand::set_jitter(jitter);
+        self.tunnel.handle_timeout(self.instant(time));
+        self.greatest = time;
+
+        Ok(Answer::None)
+    }
+
+    /// Takes the oldest event.
+    fn event(&mut self) -> Answer {
+        match self.tunnel.poll_event() {
+            None => Answer::None,
+            Some(Event::SendHandshakeInitiation(datagram)) => initiation_answer(&datagram),
+            Some(Event::SendKeepalive(datagram)) => keepalive_answer(&datagram),
+            Some(Event::Established {
+                started_at,
+                confirmed_at,
+            }) => Answer::Established {
+                started: self.time(started_at),
+                confirmed: self.time(confirmed_at),
+            },
+            Some(Event::ConnectionExpired) => Answer::Expired,
+        }
+    }
+
+    /// The next deadline.
+    fn next(&self) -> Answer {
+        self.tunnel
+            .poll_timeout()
+            .map_or(Answer::None, |at| Answer::At(self.time(at)))
+    }
+
+    /// The count of window counters that were not committed, of the session with exactly `index`.
+    fn missing(&self, index: u32) -> Result<Answer, Number> {
+        let ones = self.tunnel.sessions().ones(Index::from_peer(index));
+
+        ones.map(|ones| Answer::Missing(WINDOW - ones))
+            .ok_or(NO_SESSION)
+    }
+
+    /// Turns down a time earlier than the greatest one.
+    fn not_back(&self, time: u64) -> Result<(), Number> {
+        if time < self.greatest {
+            return Err(TIME_WENT_BACK);
+        }
+
+        Ok(())
+    }
+
+    /// A script's time as the original takes it.
+    fn instant(&self, time: u64) -> Instant {
+        self.base + Duration::from_nanos(time)
+    }
+
+    /// A time of the original as the script writes it.
+    fn time(&self, instant: Instant) -> u64 {
+        instant.duration_since(self.base).as_nanos() as u64
+    }
+}
+
+/// Cuts a range at `at`; answers nothing at its whole length or beyond.
+fn split(peer: u32, first: u64, length: u64, at: u64) -> Result<Answer, Number> {
+    let len = NonZeroUsize::new(length as usize).ok_or(BAD_ARGUMENT)?;
+    let at = NonZeroUsize::new(at as usize).ok_or(BAD_ARGUMENT)?;
+    if first
+        .checked_add(length)
+        .is_none_or(|end| end > REJECT_AFTER_MESSAGES)
+    {
+        return Err(BAD_ARGUMENT);
+    }
+
+    let mut front = PendingEncapsulate::of(peer, first, len);
+    let back = front.split_off(at);
+
+    Ok(back.map_or(Answer::None, |back| {
+        Answer::Ranges(front.range(), back.range())
+    }))
+}
+
+/// Turns down a time above the limit.
+fn within_limit(time: u64) -> Result<(), Number> {
+    if time > TIME_LIMIT {
+        return Err(TIME_ABOVE_LIMIT);
+    }
+
+    Ok(())
+}
+
+/// Turns down an outcome that is neither good nor among those named for the call.
+fn outcome_among(outcome: u64, named: &[u64]) -> Result<(), Number> {
+    if outcome != 0 && !named.contains(&outcome) {
+        return Err(BAD_ARGUMENT);
+    }
+
+    Ok(())
+}
+
+/// The key of the tunnel's peer.
+fn peer_key() -> PublicKey {
+    PublicKey::from([1; 32])
+}
+
+/// An incoming initiation that comes out as the script says; for 7 the key agreement fails later.
+fn incoming_initiation(peer: u32, outcome: u64) -> HandshakeInitiation {
+    let wrong_key = PublicKey::from([2; 32]);
+
+    HandshakeInitiation(Box::new(InnerHandshakeInitiation {
+        sender_idx: peer,
+        peer_static_public: if outcome == WRONG_KEY {
+            wrong_key
+        } else {
+            peer_key()
+        },
+        peer_ephemeral_public: PublicKey::from([0; 32]),
+        chaining_key: Zeroizing::new([0; 32]),
+        hash: [0; 32],
+        timestamp: Tai64N::zero(),
+        replay_check: match outcome {
+            REPLAYED => ReplayCheck::Replayed,
+            PREDATES => ReplayCheck::Unchecked,
+            _ => ReplayCheck::Fresh,
+        },
+    }))
+}
+
+/// A received message after its opening.
+fn opened((counter, opening): (u64, Opening)) -> (u64, Result<Plaintext<()>, Error>) {
+    let plaintext = match opening {
+        Opening::Data => Ok(Plaintext::Data {
+            buffer: (),
+            len: 16,
+        }),
+        Opening::Keepalive => Ok(Plaintext::Keepalive),
+        Opening::Failed => Err(Error::InvalidAeadTag),
+    };
+
+    (counter, plaintext)
+}
+
+/// The local index of an initiation.
+fn initiation_answer(datagram: &Datagram) -> Answer {
+    Answer::Initiation {
+        local: number_at(datagram, 4),
+    }
+}
+
+/// The peer's index and the counter of a keepalive.
+fn keepalive_answer(datagram: &Datagram) -> Answer {
+    let counter = datagram[8..16].try_into().expect("eight bytes");
+
+    Answer::Keepalive {
+        peer: number_at(datagram, 4),
+        counter: u64::from_le_bytes(counter),
+    }
+}
+
+/// The four-byte number at an offset of a datagram.
+fn number_at(datagram: &Datagram, offset: usize) -> u32 {
+    u32::from_le_bytes(datagram[offset..offset + 4].try_into().expect("four bytes"))
+}
+
+/// What can be seen of a tunnel, for whoever makes scripts.
+pub struct View {
+    pub greatest: u64,
+    pub expired: bool,
+    pub has_events: bool,
+    pub next: Option<u64>,
+    pub deadlines: Vec<u64>,
+    pub sessions: Vec<ViewSession>,
+    pub current: Option<u32>,
+    pub last_index: u32,
+    pub initiations: [Option<u32>; 2],
+    pub awaited_cookie: Option<u32>,
+}
+
+/// What can be seen of a filled slot.
+pub struct ViewSession {
+    pub index: u32,
+    pub peer: u32,
+    pub id: u64,
+    pub established_at: u64,
+    pub initiator: bool,
+    pub next_sent: u64,
+    pub next_received: u64,
+}
+
+impl Held {
+    /// What can be seen of this tunnel.
+    fn view(&self) -> View {
+        let sessions = self.tunnel.sessions();
+        let handshake = self.tunnel.handshake();
+
+        View {
+            greatest: self.greatest,
+            expired: self.tunnel.is_expired(),
+            has_events: self.tunnel.has_events(),
+            next: self.tunnel.poll_timeout().map(|at| self.time(at)),
+            deadlines: self
+                .tunnel
+                .deadlines()
+                .into_iter()
+                .map(|at| self.time(at))
+                .collect(),
+            sessions: sessions
+                .views()
+                .into_iter()
+                .map(|session| self.session_view(session))
+                .collect(),
+            current: sessions.current_index(),
+            last_index: sessions.last_index(),
+            initiations: handshake.initiations(),
+            awaited_cookie: handshake.awaited_cookie(),
+        }
+    }
+
+    /// What can be seen of a filled slot, with its time as the script writes it.
+    fn session_view(&self, session: SessionView) -> ViewSession {
+        ViewSession {
+            index: session.index,
+            peer: session.peer,
+            id: session.id,
+            established_at: self.time(session.established_at),
+            initiator: session.initiator,
+            next_sent: session.next_sent,
+            next_received: session.next_received,
+        }
+    }
+}

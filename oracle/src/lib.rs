@@ -1,0 +1,41 @@
+//! The published Rust of the tunnel's control, built unchanged, and a driver that answers line
+//! scripts with it.
+
+mod crypto;
+mod driver;
+mod errors;
+mod script;
+
+pub use driver::{Answer, Driver, Number, View, ViewSession};
+pub use keys::PublicKey;
+pub use script::{Call, Lines, MAX_LINE, Opening, read};
+pub use window::Window;
+
+mod window;
+
+// The published files that need no accessor.
+include!(concat!(env!("OUT_DIR"), "/modules.rs"));
+
+#[allow(dead_code, unused)]
+mod replay {
+    include!(concat!(env!("OUT_DIR"), "/replay.rs"));
+    mod access;
+}
+
+#[allow(dead_code, unused)]
+mod session {
+    include!(concat!(env!("OUT_DIR"), "/session.rs"));
+    pub(crate) mod access;
+}
+
+#[allow(dead_code, unused)]
+mod handshake {
+    include!(concat!(env!("OUT_DIR"), "/handshake.rs"));
+    mod access;
+}
+
+#[allow(dead_code, unused)]
+mod tunnel {
+    include!(concat!(env!("OUT_DIR"), "/tunnel.rs"));
+    mod access;
+}

@@ -1,0 +1,46 @@
+//! What the driver reads of a tunnel.
+
+use std::time::Instant;
+
+use super::Tunnel;
+use crate::handshake::Handshake;
+use crate::session::Sessions;
+
+impl Tunnel {
+    /// The tunnel's sessions.
+    pub(crate) fn sessions(&self) -> &Sessions {
+        &self.sessions
+    }
+
+    /// The tunnel's handshake.
+    pub(crate) fn handshake(&self) -> &Handshake {
+        &self.handshake
+    }
+
+    /// Whether an event is queued.
+    pub(crate) fn has_events(&self) -> bool {
+        !self.events.is_empty()
+    }
+
+    /// Every time at which some rule of the tunnel changes its answer, due or not.
+    pub(crate) fn deadlines(&self) -> Vec<Instant> {
+        let timers = &self.timers;
+
+        [
+            Some(timers.reject_after_time()),
+            Some(timers.rekey_attempt_deadline()),
+            timers.scheduled_handshake(),
+            timers.rekey_after_time_without_response(),
+            timers.keepalive_after_time_without_send(),
+            timers.next_persistent_keepalive(),
+            self.handshake.cookie_expiration(),
+            self.handshake_rekey_timeout().map(|(at, _)| at),
+            self.sessions.next_expiry(),
+            self.rekey_after_time_on_send(),
+            self.reject_after_time_on_receive(),
+        ]
+        .into_iter()
+        .flatten()
+        .collect()
+    }
+}
