@@ -1,0 +1,51 @@
+-- Rules for the enums: a value equals a choice by cases if the case is known and the value equals what the case gives.
+-- Assumes nothing.
+use mathlib.Core.Path.{_≡_}
+use Prim.Native.Nat.{ℕ}
+use Rattle.sessions.specs.declared.session.Time.{Time}
+use Rattle.sessions.specs.declared.session.Time.the-variants.{Never, At}
+use Rattle.sessions.specs.declared.session.Role.{Role}
+use Rattle.sessions.specs.declared.session.Role.the-variants.{Initiator, Responder}
+use Rattle.sessions.specs.declared.session.Session.{Session}
+use Rattle.sessions.specs.declared.sessions.Found.{Found}
+use Rattle.sessions.specs.declared.sessions.Found.the-variants.{Nothing, Got}
+use Rattle.sessions.specs.declared.sessions.Selected.{Selected}
+use Rattle.sessions.specs.declared.sessions.Selected.the-variants.{Unset, Index}
+use Rattle.sessions.specs.Session.{caseTime, caseRole}
+use Rattle.sessions.specs.Sessions.{caseFound, caseSelected}
+
+module _ {A : Type 0} where
+  pub is-never : (d : Time) (v x : A) (f : ℕ → A) → d ≡ Never → v ≡ x → v ≡ caseTime d x f
+  unfolding caseTime
+  is-never d v x f p q = rw p q
+
+  pub is-at : (d : Time) (time : ℕ) (v x : A) (f : ℕ → A) → d ≡ At time → v ≡ f time → v ≡ caseTime d x f
+  unfolding caseTime
+  is-at d time v x f p q = rw p q
+
+  pub is-initiator : (role : Role) (v x y : A) → role ≡ Initiator → v ≡ x → v ≡ caseRole role x y
+  unfolding caseRole
+  is-initiator role v x y p q = rw p q
+
+  pub is-responder : (role : Role) (v x y : A) → role ≡ Responder → v ≡ y → v ≡ caseRole role x y
+  unfolding caseRole
+  is-responder role v x y p q = rw p q
+
+  -- what a lookup answered, where the code has the answer in a local
+  pub is-nothing : (got found : Found) (v x : A) (f : Session → A) → got ≡ found → got ≡ Nothing → v ≡ x → v ≡ caseFound found x f
+  unfolding caseFound
+  is-nothing got found v x f e p q = rw (← e, p) q
+
+  pub is-got : (got found : Found) (session : Session) (v x : A) (f : Session → A) → got ≡ found → got ≡ Got session → v ≡ f session → v ≡ caseFound found x f
+  unfolding caseFound
+  is-got got found session v x f e p q = rw (← e, p) q
+
+  pub is-unset : (selected : Selected) (v x : A) (f : ℕ → A) → selected ≡ Unset → v ≡ x → v ≡ caseSelected selected x f
+  unfolding caseSelected
+  is-unset selected v x f p q = rw p q
+
+  pub is-index : (selected : Selected) (index : ℕ) (v x : A) (f : ℕ → A) → selected ≡ Index index → v ≡ f index → v ≡ caseSelected selected x f
+  unfolding caseSelected
+  is-index selected index v x f p q = rw p q
+
+pub ruleset cases = (is-never, is-at, is-initiator, is-responder, is-nothing, is-got, is-unset, is-index)

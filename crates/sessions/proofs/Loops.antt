@@ -1,0 +1,141 @@
+-- The loops over the slots and over a store's words: where each begins, a turn, and where it ends.
+-- Assumes nothing.
+use mathlib.Core.Path.{_≡_, refl, ap, sym, _∙_}
+use mathlib.Core.Bool.{Bool, true, false}
+use mathlib.Core.List.{List, [], _∷_, map}
+use Prim.Native.Nat.{ℕ, zero, suc, _+_, _-_, _*_, _^_, _≤_, _<_}
+use native.Mathlib.Nat.{add-assoc, add-zero}
+use native.Mathlib.Numerals.{add-one}
+use native.Mathlib.Omega.{arith}
+use lib.Count.{ones, ones-le}
+use lib.ListN.{length, getD, drop, length-map, drop-of-length-le}
+use lib.Seq.{drop-cons}
+use borrow.Author.Tests.{eq-eqb}
+use Rattle.base.specs.Choice.{choose}
+use Rattle.sessions.specs.declared.session.Session.{Session}
+use Rattle.sessions.specs.declared.session.Time.{Time}
+use Rattle.sessions.specs.declared.session.Time.the-variants.{Never}
+use Rattle.sessions.specs.declared.sessions.Found.the-variants.{Nothing}
+use Rattle.sessions.specs.declared.sessions.Sessions.{Sessions}
+use Rattle.sessions.specs.declared.sessions.Expired.{Expired}
+use Rattle.sessions.specs.Store.{onesOf, Counted, missingOf, Leaves}
+use Rattle.sessions.specs.Session.{timeLimit, emptySession, newSession, earlier}
+use Rattle.sessions.specs.Sessions.{TimesWithin, slotAt, noneFilled, slotExpiry, firstExpiry, Expiring, expireSlot, Expires, expireFirst, expire}
+
+-- the length of a list of records, read off a field's
+pub long : {A B : Type 0} (f : A → B) (l : List A) (n : ℕ) → length (map f l) ≡ n → length l ≡ n
+long f l n e = sym (length-map l f) ∙ e
+
+-- a search for a filled slot has found none among the first
+pub record NoneYet (slots : List Session) (i : ℕ) : Type 0 where
+  pub within : i ≤ 8
+  pub size : length slots ≡ 8
+  pub left : noneFilled slots ≡ noneFilled (drop i slots)
+
+module _ (slots : List Session) where
+  pub none-begins : length slots ≡ 8 → NoneYet slots 0
+  none-begins l = record { within = omega arith; size = l; left = refl }
+
+  module _ (i : ℕ) (y : NoneYet slots i) where
+    none-step : i < 8 → noneFilled slots ≡ choose (getD slots i emptySession .filled) false (noneFilled (drop (suc i) slots))
+    unfolding noneFilled
+    none-step h = y .left ∙ rw (drop-cons slots i emptySession (omega (arith, y .size)))
+
+    pub none-more : i < 8 → getD slots i emptySession .filled ≡ false → NoneYet slots (i + 1)
+    unfolding choose
+    none-more h p = record { within = omega arith; size = y .size; left = rw add-one (none-step h ∙ rw p) }
+
+    pub some-found : i < 8 → getD slots i emptySession .filled ≡ true → false ≡ noneFilled slots
+    unfolding choose
+    some-found h p = sym (none-step h ∙ rw p)
+
+    pub none-found : 8 ≤ i → true ≡ noneFilled slots
+    unfolding noneFilled
+    none-found h = sym (y .left ∙ rw (drop-of-length-le slots {i = i} (omega (arith, y .size))))
+
+-- the earliest expiry of one more slot
+module _ (s : Sessions) where
+  pub slot-within : (slot : ℕ) → TimesWithin s → slot < 8 → slotAt s slot .filled ≡ true → slotAt s slot .«established_at» ≤ timeLimit
+  slot-within slot w = w .within slot
+
+  pub expiry-begins : Never ≡ firstExpiry s 0
+  unfolding firstExpiry
+  expiry-begins = refl
+
+  pub expiry-more : (slot : ℕ) (earliest each last : Time) → earliest ≡ firstExpiry s slot → each ≡ slotExpiry s slot → last ≡ earlier earliest each
+      → last ≡ firstExpiry s (slot + 1)
+  unfolding firstExpiry
+  expiry-more slot earliest each last e f g = rw add-one (g ∙ rw (e, f))
+
+  pub expiry-ends : (slot : ℕ) (earliest : Time) → slot ≤ 8 → 8 ≤ slot → earliest ≡ firstExpiry s slot → earliest ≡ firstExpiry s 8
+  expiry-ends slot earliest h l e = let same : slot ≡ 8 = omega arith in e ∙ ap (firstExpiry s) same
+
+-- a sum of ones under way
+pub record Ones (words : List ℕ) (i sum : ℕ) : Type 0 where
+  pub within : i ≤ length words
+  pub bound : sum ≤ 64 * i
+  pub left : sum + onesOf (drop i words) ≡ onesOf words
+
+module _ (words : List ℕ) where
+  pub ones-begin : Ones words 0 0
+  ones-begin = record { within = omega arith; bound = omega arith; left = native.Mathlib.Nat.zero-add (onesOf words) }
+
+  module _ (i sum : ℕ) (o : Ones words i sum) where
+    pub ones-more : (n : ℕ) → i < length words → n ≡ ones (getD words i 0) → n ≤ 64 → Ones words (i + 1) (sum + n)
+    unfolding onesOf
+    ones-more n h e f =
+        record {
+          within = omega arith;
+          bound = omega (arith, o .bound);
+          left = rw (add-assoc, e, add-one) (ap (λ (x : ℕ). sum + x) (rw (drop-cons words i 0 h)) ∙ o .left);
+        }
+
+    pub ones-end : length words ≤ i → length words ≤ 128 → Counted words sum
+    unfolding onesOf
+    ones-end h l =
+        record {
+          out = sym (add-zero sum) ∙ ap (λ (x : ℕ). sum + x) (sym (ap onesOf (drop-of-length-le words {i = i} h))) ∙ o .left;
+          most = omega (arith, o .bound, o .within);
+        }
+
+-- the ones of a word of 64 bits
+pub ones-few : (w : ℕ) → w < 2 ^ 64 → ones w ≤ 64
+ones-few w h = ones-le 64 w h
+
+pub ones-fits : (w : ℕ) → w < 2 ^ 64 → ones w < 2 ^ 64
+ones-fits w h = omega (arith, ones-le 64 w h)
+
+pub missing-is : (words : List ℕ) (n : ℕ) → Counted words n → 8192 - n ≡ missingOf words
+unfolding missingOf
+missing-is words n e = ap (λ (x : ℕ). 8192 - x) (e .out)
+
+-- an expiry that has gone through the first slots
+pub record Gone (began : Expired) (store : List ℕ) (time slot : ℕ) (e : Expired) (left : List ℕ) : Type 0 where
+  pub within : slot ≤ 8
+  pub size : length left ≡ 1024
+  pub out : e ≡ expireFirst (record { expired = began; store = store }) slot time .expired
+  pub words : left ≡ expireFirst (record { expired = began; store = store }) slot time .store
+
+module _ (began : Expired) (store : List ℕ) (time : ℕ) where
+  pub gone-begins : length store ≡ 1024 → Gone began store time 0 began store
+  unfolding expireFirst
+  gone-begins l = record { within = omega arith; size = l; out = refl; words = refl }
+
+  pub gone-more : (slot : ℕ) (e last : Expired) (left after : List ℕ) → Gone began store time slot e left → slot < 8 → Expires e left slot time last after
+      → length after ≡ length left → Gone began store time (slot + 1) last after
+  unfolding expireFirst
+  gone-more slot e last left after g h x l =
+      record {
+        within = omega arith;
+        size = l ∙ g .size;
+        out = rw (add-one, ← g .out, ← g .words) (x .out);
+        words = rw (add-one, ← g .out, ← g .words) (x .words);
+      }
+
+pub gone-ends : (s : Sessions) (store : List ℕ) (time slot : ℕ) (e : Expired) (left : List ℕ)
+    → Gone (record { sessions = s; current = Nothing }) store time slot e left → length store ≡ 1024 → 8 ≤ slot
+    → Leaves e (expire s store time .expired) left (expire s store time .store)
+unfolding expire choose
+gone-ends s store time slot e left g l h =
+    let same : slot ≡ 8 = omega (arith, g .within) in
+    rw (eq-eqb (length store) 1024 l) (record { out = rw (← same) (g .out); words = rw (← same) (g .words) })

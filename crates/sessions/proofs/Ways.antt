@@ -1,0 +1,130 @@
+-- One law for each way out of the ring's functions: what the code hands back is what the definition says, under the tests that led there.
+-- Assumes nothing.
+use mathlib.Core.Path.{_≡_, refl, ap, sym, _∙_}
+use mathlib.Core.Bool.{Bool, true, false}
+use mathlib.Core.List.{List, [], _∷_}
+use Prim.Native.Nat.{ℕ, zero, suc, _+_, _-_, _*_, _%_, _^_, _≤_, _<_}
+use native.Mathlib.Nat.{le-antisymm}
+use native.Mathlib.Numerals.{add-one}
+use native.Mathlib.Omega.{arith}
+use lib.ListN.{length, getD, set, take, drop, length-set}
+use borrow.Author.Tests.{eq-eqb, ne-eqb}
+use Rattle.base.specs.Choice.{choose}
+use Rattle.base.proofs.Choice.{yes-eq, no-eq, yes-flag, no-flag}
+use Rattle.window.specs.Window.{willAccept}
+use Rattle.sessions.specs.declared.session.Role.the-variants.{Initiator}
+use Rattle.sessions.specs.declared.session.Session.{Session}
+use Rattle.sessions.specs.declared.session.Time.{Time}
+use Rattle.sessions.specs.declared.sessions.Found.{Found}
+use Rattle.sessions.specs.declared.sessions.Found.the-variants.{Nothing, Got}
+use Rattle.sessions.specs.declared.sessions.Selected.the-variants.{Unset}
+use Rattle.sessions.specs.declared.sessions.Missing.{Missing}
+use Rattle.sessions.specs.declared.sessions.Missing.the-variants.{Refused, Count}
+use Rattle.sessions.specs.declared.sessions.Sessions.{Sessions}
+use Rattle.sessions.specs.declared.sessions.Allocated.{Allocated}
+use Rattle.sessions.specs.declared.sessions.Expired.{Expired}
+use Rattle.sessions.specs.Index.{slotIn, wrappingIncrement}
+use Rattle.sessions.specs.Store.{slotOf, putSlot, zeros, missingOf, Leaves}
+use Rattle.sessions.specs.Session.{newSession, withFilled, withId, emptySession, willReceive, earlier}
+use Rattle.sessions.specs.Sessions.{caseFound, ring, withSlots, withCurrent, withLastIndex, withInserted, slotAt, emptySlots, newSessions, get, put, inCurrentSlot, indexAfter, nextIndex, inserting, insert, isIndex, clear, emptied, expiredSlot, Expiring, discard, expireSlot, Expires, expireFirst, expire, slotExpiry, firstExpiry, missing}
+use Rattle.sessions.proofs.Words.{part-is}
+
+-- an empty slot's record, made from a new session
+pub empty-is : (s : Session) → s ≡ newSession 0 0 Initiator 0 → withFilled s false ≡ emptySession
+unfolding emptySession
+empty-is s e = rw e
+
+-- the early look at a part of the store
+pub looked : (s : Session) (store : List ℕ) (receiver counter start end r : ℕ) → length store ≡ 1024 → receiver ≡ s .«receiving_index»
+    → r ≡ willAccept (take (end - start) (drop start store)) (s .next) counter → start ≡ 128 * (receiver % 8) → end ≡ start + 128
+    → r ≡ willReceive s store receiver counter
+unfolding willReceive
+looked s store receiver counter start end r l i e b f =
+    yes-eq (length store) 1024 r (choose _ _ 6) 2 l
+    (yes-eq receiver (s .«receiving_index») r (willAccept (slotOf store (slotIn receiver)) (s .next) counter) 6 i
+    (e ∙ ap (λ (words : List ℕ). willAccept words (s .next) counter) (part-is store (receiver % 8) start end b f)))
+
+-- eight empty slots
+pub new-is : (e : Session) (index : ℕ) → e ≡ emptySession
+    → ring (e ∷ e ∷ e ∷ e ∷ e ∷ e ∷ e ∷ e ∷ []) Unset index 0 ≡ newSessions index
+unfolding newSessions emptySlots
+new-is e index p = rw p
+
+module _ (s : Sessions) where
+  pub emptied-is : (e : Session) (slot : ℕ) → e ≡ emptySession → withSlots s (set (s .slots) slot e) ≡ emptied s slot
+  unfolding emptied
+  emptied-is e slot p = rw p
+
+  -- one number taken, or two
+  module _ (first : ℕ) (f : Bool) (one : first ≡ wrappingIncrement (s .«last_index»)) (at : f ≡ inCurrentSlot s first) where
+    pub takes-two : (second : ℕ) → f ≡ true → second ≡ wrappingIncrement first
+        → record { sessions = withLastIndex s second; index = second } ≡ nextIndex s
+    unfolding nextIndex indexAfter choose
+    takes-two second t e = rw (← one, ← at, t, ← e)
+
+    pub takes-one : f ≡ false → record { sessions = withLastIndex s first; index = first } ≡ nextIndex s
+    unfolding nextIndex indexAfter choose
+    takes-one t = rw (← one, ← at, t)
+
+  module _ (store : List ℕ) where
+    -- a store of another length leaves all as it is
+    module _ (h : length store ≡ 1024 → ⊥) where
+      pub not-inserted : (x : Session) → Leaves s (insert s store x .sessions) store (insert s store x .store)
+      unfolding insert choose
+      not-inserted x = rw (ne-eqb (length store) 1024 h) (record { out = refl; words = refl })
+
+      pub not-cleared : Leaves s (clear s store .sessions) store (clear s store .store)
+      unfolding clear choose
+      not-cleared = rw (ne-eqb (length store) 1024 h) (record { out = refl; words = refl })
+
+      pub not-expired : (now : ℕ)
+          → Leaves (record { sessions = s; current = Nothing }) (expire s store now .expired) store (expire s store now .store)
+      unfolding expire choose
+      not-expired now = rw (ne-eqb (length store) 1024 h) (record { out = refl; words = refl })
+
+      pub not-reported : (index : ℕ) → Refused 2 ≡ missing s store index
+      unfolding missing choose
+      not-reported index = rw (ne-eqb (length store) 1024 h)
+
+    module _ (l : length store ≡ 1024) where
+      pub inserted : (x : Session) (left : List ℕ) (last : Sessions) (count : ℕ)
+          → left ≡ putSlot store (x .«receiving_index» % 8) (zeros 128) → last ≡ put s (withId x (s .inserted)) → count ≡ (s .inserted + 1) % 2 ^ 64
+          → Leaves (withInserted last count) (insert s store x .sessions) left (insert s store x .store)
+      unfolding insert inserting choose
+      inserted x left last count w p n = rw (eq-eqb (length store) 1024 l) (record { out = rw (p, n); words = w })
+
+      pub cleared : (e : Session) (left : List ℕ) → left ≡ zeros (length store) → e ≡ emptySession
+          → Leaves (ring (e ∷ e ∷ e ∷ e ∷ e ∷ e ∷ e ∷ e ∷ []) Unset (s .«last_index») (s .inserted)) (clear s store .sessions) left (clear s store .store)
+      unfolding clear emptySlots choose
+      cleared e left w p = rw (eq-eqb (length store) 1024 l) (record { out = rw p; words = w ∙ ap zeros l })
+
+      pub not-found : (index : ℕ) (found : Found) → found ≡ get s index → found ≡ Nothing → Refused 12 ≡ missing s store index
+      unfolding missing caseFound choose
+      not-found index found e p = rw (eq-eqb (length store) 1024 l, ← e, p)
+
+      pub reported : (index : ℕ) (found : Found) (x : Session) (start end n : ℕ) → found ≡ get s index → found ≡ Got x
+          → n ≡ missingOf (take (end - start) (drop start store)) → start ≡ 128 * (x .«receiving_index» % 8) → end ≡ start + 128
+          → Count n ≡ missing s store index
+      unfolding missing caseFound choose
+      reported index found x start end n e p m b f =
+          rw (eq-eqb (length store) 1024 l, ← e, p) (ap Count (m ∙ ap missingOf (part-is store (x .«receiving_index» % 8) start end b f)))
+
+-- a session discarded from a slot
+module _ (e : Expired) (slot : ℕ) (f : Bool) (rest : Sessions) (p : rest ≡ emptied (e .sessions) slot)
+    (q : f ≡ isIndex (e .sessions .current) (slotAt (e .sessions) slot .«receiving_index»)) where
+  pub discarded-current : f ≡ true → record { sessions = withCurrent rest Unset; current = Got (slotAt (e .sessions) slot) } ≡ discard e slot
+  unfolding discard choose
+  discarded-current t = rw (← q, t, p)
+
+  pub discarded-other : f ≡ false → record { sessions = rest; current = e .current } ≡ discard e slot
+  unfolding discard choose
+  discarded-other t = rw (← q, t, p)
+
+module _ (e : Expired) (store : List ℕ) (slot now : ℕ) (f : Bool) (q : f ≡ expiredSlot (e .sessions) slot now) where
+  pub slot-due : (left : List ℕ) (last : Expired) → f ≡ true → left ≡ putSlot store slot (zeros 128) → last ≡ discard e slot → Expires e store slot now last left
+  unfolding expireSlot choose
+  slot-due left last t w d = record { out = rw (← q, t) d; words = rw (← q, t) w }
+
+  pub slot-kept : f ≡ false → Expires e store slot now e store
+  unfolding expireSlot choose
+  slot-kept t = record { out = rw (← q, t); words = rw (← q, t) }

@@ -1,0 +1,69 @@
+use borrow.Author.Needs.{needs}
+use lib.ListN.{length}
+use Prim.Native.Nat.{_-_}
+use Rattle.sessions.proofs.Batches.{Going, batch-begins, batch-ends, batch-turn}
+use Rattle.sessions.proofs.batch.finish_all.Statement.{statement}
+use Rattle.sessions.proofs.batch.finish_all.Tie as tie
+
+abbrev Inv-loop : tie.InvT-loop
+Inv-loop words₀ counters kinds verdicts₀ progress₀ i₀ words verdicts progress i = Going words₀ progress₀ counters kinds words verdicts progress i
+
+abbrev μ-loop : tie.MeasureT-loop
+μ-loop words₀ counters kinds verdicts₀ progress₀ i₀ words verdicts progress i = length counters - i
+
+loop-holds : tie.Need-loop-holds Inv-loop μ-loop
+loop-holds c = search (batch-begins, needs)
+
+mul-finish-receive-packet-data : tie.Need-mul-finish-receive-packet-data Inv-loop μ-loop
+mul-finish-receive-packet-data c = search needs
+
+shared-slice-read-finish-receive-packet-data :
+    tie.Need-shared-slice-read-finish-receive-packet-data Inv-loop μ-loop
+shared-slice-read-finish-receive-packet-data c = search needs
+
+shared-slice-read-finish-receive-packet-data-2 :
+    tie.Need-shared-slice-read-finish-receive-packet-data-2 Inv-loop μ-loop
+shared-slice-read-finish-receive-packet-data-2 c = search needs
+
+finish-receive-packet-data-requires : tie.Need-finish-receive-packet-data-requires Inv-loop μ-loop
+finish-receive-packet-data-requires c κs = search needs
+
+slice-write-verdicts : tie.Need-slice-write-verdicts Inv-loop μ-loop
+slice-write-verdicts c = search needs
+
+add-i : tie.Need-add-i Inv-loop μ-loop
+add-i c = search needs
+
+loop-less : tie.Need-loop-less Inv-loop μ-loop
+loop-less c = search needs
+
+loop-again : tie.Need-loop-again Inv-loop μ-loop
+loop-again c = search (batch-turn, needs)
+
+same-length : tie.Need-same-length Inv-loop μ-loop
+same-length c = search needs
+
+same-length-2 : tie.Need-same-length-2 Inv-loop μ-loop
+same-length-2 c = search needs
+
+returns : tie.Need-returns Inv-loop μ-loop
+returns c = search (batch-ends, needs)
+
+pub finish-all-spec : {M : Type 1} → statement M
+finish-all-spec =
+    tie.close
+    (tie.spec
+    Inv-loop
+    μ-loop
+    loop-holds
+    mul-finish-receive-packet-data
+    shared-slice-read-finish-receive-packet-data
+    shared-slice-read-finish-receive-packet-data-2
+    finish-receive-packet-data-requires
+    slice-write-verdicts
+    add-i
+    loop-less
+    loop-again
+    same-length
+    same-length-2
+    returns)
