@@ -23,7 +23,7 @@ use Rattle.sessions.specs.declared.sessions.Found.the-variants.{Nothing,
 use Rattle.sessions.specs.declared.sessions.Sessions.{Sessions}
 use Rattle.sessions.specs.Store.{slotOf, putSlot, Leaves}
 use Rattle.sessions.specs.Sessions.{caseFound, put}
-use Rattle.sessions.specs.Batch.{known, fits, accepting, finish, finishWords, Batch, withVerdict, finishAll, Finishes, started, withProgress, receivingSession, refused, Ready, batchOf, FinishesSlot, committed, commit, receive, Receives}
+use Rattle.sessions.specs.Batch.{known, fits, accepting, finish, finishWords, Batch, withVerdict, finishAll, Finishes, started, withProgress, receivingSession, refused, Ready, batchOf, FinishesSlot, answered, commit, receive, Receives}
 use Rattle.sessions.proofs.Words.{part-is, part-put}
 
 -- a search for a kind that is none of the three has found none among the first
@@ -162,11 +162,11 @@ slot-finished store counters kinds x start end from progress last given q f b d 
     }
 
 -- what a commit answers
-pub committed-is : (s sessions : Sessions) (x after : Session) (progress : Progress) → after ≡ withProgress x progress → sessions ≡ put s after
+pub answered-is : (s sessions : Sessions) (x after : Session) (progress : Progress) → after ≡ withProgress x progress → sessions ≡ put s after
     → record { sessions = sessions; number = 0; accepted = progress .accepted; «data» = progress .«data»; «established_at» = x .«established_at» }
-    ≡ committed s x progress
-unfolding committed
-committed-is s sessions x after progress w p = rw (p, w)
+    ≡ answered s x progress
+unfolding answered
+answered-is s sessions x after progress w p = rw (p, w)
 
 -- the whole call
 module _ (s : Sessions) (store : List ℕ) (index id now : ℕ) (counters kinds verdicts : List ℕ) where
@@ -177,11 +177,11 @@ module _ (s : Sessions) (store : List ℕ) (index id now : ℕ) (counters kinds 
     none-receives answer p r = rw (← e, p) (record { out = r; words = refl; list = refl })
 
     pub one-receives : (x : Session) (progress : Progress) (answer : Received) (last given : List ℕ)
-        → found ≡ Got x → FinishesSlot store x counters kinds progress last given → answer ≡ committed s x progress
+        → found ≡ Got x → FinishesSlot store x counters kinds progress last given → answer ≡ answered s x progress
         → Receives (commit s store index id now counters kinds verdicts) answer last given
     unfolding commit caseFound
     one-receives x progress answer last given p f r =
-        rw (← e, p) (record { out = r ∙ ap (committed s x) (f .out); words = f .words; list = f .list })
+        rw (← e, p) (record { out = r ∙ ap (answered s x) (f .out); words = f .words; list = f .list })
 
   pub wrong-store : (answer : Received) → (length store ≡ 1024 → ⊥) → answer ≡ refused s 2
       → Receives (receive s store index id now counters kinds verdicts) answer store verdicts

@@ -1,6 +1,11 @@
+pub mod Apart
 pub mod Batches
 pub mod Cases
+pub mod Indices
+pub mod Judged
 pub mod Loops
+pub mod Received
+pub mod Reservations
 pub mod Sums
 pub mod Ways
 pub mod Words

@@ -116,8 +116,8 @@ abbrev pub untouched : Sessions → (store verdicts : List ℕ) → ℕ → Outc
 untouched s store verdicts number = record { received = refused s number; store = store; verdicts = verdicts }
 
 -- the answer of a batch that was committed to a session
-unfoldable pub committed : Sessions → Session → Progress → Received
-committed s session progress =
+unfoldable pub answered : Sessions → Session → Progress → Received
+answered s session progress =
     record {
       sessions = put s (withProgress session progress);
       number = 0;
@@ -127,10 +127,10 @@ committed s session progress =
     }
 
 -- a batch committed to a session and to the words of its slot
-abbrev pub committing : Sessions → List ℕ → Session → Batch → Outcome
-committing s store session b =
+abbrev pub committedTo : Sessions → List ℕ → Session → Batch → Outcome
+committedTo s store session b =
     record {
-      received = committed s session (b .progress);
+      received = answered s session (b .progress);
       store = putSlot store (slotIn (session .«receiving_index»)) (b .words);
       verdicts = b .verdicts;
     }
@@ -139,7 +139,7 @@ committing s store session b =
 unfoldable pub commit : Sessions → List ℕ → (index id now : ℕ) → (counters kinds verdicts : List ℕ) → Outcome
 commit s store index id now counters kinds verdicts =
     caseFound (receivingSession s index id now) (untouched s store verdicts 12)
-    (λ session. committing s store session (batchOf store session counters kinds))
+    (λ session. committedTo s store session (batchOf store session counters kinds))
 
 -- a batch: 2 for a store not of 1,024 words or lists that make no batch
 unfoldable pub receive : Sessions → List ℕ → (index id now : ℕ) → (counters kinds verdicts : List ℕ) → Outcome

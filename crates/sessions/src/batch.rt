@@ -6,7 +6,7 @@ ghost use mathlib.Core.Path.{_≡_};
 ghost use Prim.Native.Nat.{_<_};
 ghost use lib.ListN.{length};
 ghost use Rattle.sessions.specs.Store.{Leaves};
-ghost use Rattle.sessions.specs.Batch.{known, fits, finish, finishWords, started, finishAll, Finishes, Ready, FinishesSlot, withProgress, refused, committed, receivingSession, commit, receive, Receives};
+ghost use Rattle.sessions.specs.Batch.{known, fits, finish, finishWords, started, finishAll, Finishes, Ready, FinishesSlot, withProgress, refused, answered, receivingSession, commit, receive, Receives};
 
 // The kinds of a message: it opened as data, it opened as a keepalive, or it did not open.
 pub const DATA: u8 = 0;
@@ -215,8 +215,8 @@ impl Sessions {
     }
 
     // The answer of a batch that was committed to a session.
-    fn committed(self, session: Session, progress: Progress) -> Received
-        ensures { λ r. ⌜ r ≡ committed self session progress ⌝ }
+    fn answered(self, session: Session, progress: Progress) -> Received
+        ensures { λ r. ⌜ r ≡ answered self session progress ⌝ }
     {
         Received {
             sessions: self.put(with_progress(session, progress)),
@@ -245,7 +245,7 @@ impl Sessions {
             return self.refused(12);
         };
         let progress = finish_slot(store, session, counters, kinds, verdicts);
-        self.committed(session, progress)
+        self.answered(session, progress)
     }
 
     // Accepts the messages of a batch for the session with this index and id, and gives each its verdict. Turned down by 2 for a

@@ -2,6 +2,7 @@
 // `Index` of src/index.rs. The bitmaps of the anti-replay windows lie in a store of 1,024 words that the caller lends: those of
 // slot k are the 128 words from 128 * k on.
 pub mod batch;
+pub mod claims;
 pub mod index;
 pub mod range;
 pub mod session;

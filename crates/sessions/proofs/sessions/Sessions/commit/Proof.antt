@@ -21,8 +21,8 @@ returns c = search (none-receives, needs)
 finish-slot-requires : tie.Need-finish-slot-requires
 finish-slot-requires c κs = search needs
 
-committed-requires : tie.Need-committed-requires
-committed-requires c κs = search needs
+answered-requires : tie.Need-answered-requires
+answered-requires c κs = search needs
 
 same-length : tie.Need-same-length
 same-length c = search needs
@@ -43,7 +43,7 @@ commit-spec =
     refused-requires
     returns
     finish-slot-requires
-    committed-requires
+    answered-requires
     same-length
     same-length-2
     returns-2)

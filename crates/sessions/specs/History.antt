@@ -1,0 +1,75 @@
+-- A batch said of counters: which verdicts the history of a session calls for, and what the history is afterwards.
+use mathlib.Core.Path.{_≡_}
+use mathlib.Core.Bool.{Bool, true, false}
+use mathlib.Core.List.{List, [], _∷_}
+use Prim.Native.Nat.{ℕ, _+_, _-_, _≤_, _<_}
+use lib.Dec.{eqb}
+use lib.ListN.{length}
+use Rattle.base.specs.Choice.{choose}
+use Rattle.window.specs.Window.{limit}
+use Rattle.window.specs.History.{member, expected, judged, committing, amongLast, Represents}
+use Rattle.sessions.specs.declared.session.Session.{Session}
+use Rattle.sessions.specs.declared.sessions.Found.the-variants.{Got}
+use Rattle.sessions.specs.declared.sessions.Sessions.{Sessions}
+use Rattle.sessions.specs.Index.{slotIn}
+use Rattle.sessions.specs.Store.{slotOf, missingOf}
+use Rattle.sessions.specs.Sessions.{slotAt, insert}
+use Rattle.sessions.specs.Batch.{fits, receivingSession, receive}
+
+-- the verdict that a history calls for on a message: 7 where it failed to open, else the window's rule
+unfoldable pub verdictOn : List ℕ → (counter kind : ℕ) → ℕ
+verdictOn history counter kind = choose (eqb kind 2) 7 (judged history counter)
+
+-- the history after a message: with its counter, if it opened and is given verdict 0
+unfoldable pub historyAfter : List ℕ → (counter kind : ℕ) → List ℕ
+historyAfter history counter kind = choose (eqb kind 2) history (committing history counter)
+
+-- the verdicts that a history calls for on the messages of a batch, each with the history as those before it left it
+unfoldable pub verdictsOn : List ℕ → (counters kinds : List ℕ) → List ℕ
+verdictsOn history [] kinds = []
+verdictsOn history (counter ∷ counters) [] = []
+verdictsOn history (counter ∷ counters) (kind ∷ kinds) =
+    verdictOn history counter kind ∷ verdictsOn (historyAfter history counter kind) counters kinds
+
+-- the history after a batch
+unfoldable pub batchHistory : List ℕ → (counters kinds : List ℕ) → List ℕ
+batchHistory history [] kinds = history
+batchHistory history (counter ∷ counters) [] = history
+batchHistory history (counter ∷ counters) (kind ∷ kinds) = batchHistory (historyAfter history counter kind) counters kinds
+
+-- a session's slot stands for a history: its words, and its record's next expected counter
+abbrev pub Stands : List ℕ → Sessions → List ℕ → ℕ → Type 0
+Stands history s store slot = Represents history (slotOf store slot) (slotAt s slot .next)
+
+-- Verdict 0 is for a message that opened, whose counter is below LIMIT, at most 8,192 behind the next expected one and not in the history, and for no other.
+pub record VerdictLaw (history : List ℕ) (counter kind : ℕ) : Type 0 where
+  pub commits : (kind ≡ 2 → ⊥) → counter < limit → expected history ≤ counter + 8192 → member counter history ≡ false → verdictOn history counter kind ≡ 0
+  pub only : verdictOn history counter kind ≡ 0
+      → (kind ≡ 2 → ⊥) × (counter < limit) × (expected history ≤ counter + 8192) × (member counter history ≡ false)
+  pub failed : kind ≡ 2 → (verdictOn history counter kind ≡ 7) × (historyAfter history counter kind ≡ history)
+
+-- A batch for a live session whose slot stands for a history: it is not turned down, its verdicts are those that the history calls for,
+-- and afterwards the slot stands for the history with the batch.
+pub record BatchLaw (s : Sessions) (store : List ℕ) (index id now : ℕ) (counters kinds verdicts history : List ℕ) (session : Session) : Type 0 where
+  pub number : receive s store index id now counters kinds verdicts .received .number ≡ 0
+  pub judges : receive s store index id now counters kinds verdicts .verdicts ≡ verdictsOn history counters kinds
+  pub stands : Stands (batchHistory history counters kinds)
+      (receive s store index id now counters kinds verdicts .received .sessions)
+      (receive s store index id now counters kinds verdicts .store)
+      (slotIn index)
+
+-- what a batch law asks: a whole ring and store, lists that make a batch, a live session, and its slot standing for the history
+pub record Live (s : Sessions) (store : List ℕ) (index id now : ℕ) (counters kinds verdicts history : List ℕ) (session : Session) : Type 0 where
+  pub eight : length (s .slots) ≡ 8
+  pub size : length store ≡ 1024
+  pub batch : fits counters kinds verdicts ≡ true
+  pub found : receivingSession s index id now ≡ Got session
+  pub stands : Stands history s store (slotIn index)
+
+-- A session just inserted with next 0 stands for the empty history.
+pub record FreshLaw (s : Sessions) (store : List ℕ) (session : Session) : Type 0 where
+  pub stands : Stands [] (insert s store session .sessions) (insert s store session .store) (slotIn (session .«receiving_index»))
+
+-- The missing count of a slot that stands for a history is 8,192 less the history's counters among the last 8,192.
+pub record MissingLaw (history words : List ℕ) : Type 0 where
+  pub counts : missingOf words ≡ 8192 - amongLast history

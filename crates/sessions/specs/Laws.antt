@@ -1,0 +1,58 @@
+-- What follows from the definitions: which slots a call touches, which index is allocated, and which counters are granted.
+use mathlib.Core.Path.{_≡_}
+use mathlib.Core.Bool.{Bool, true, false}
+use mathlib.Core.List.{List, [], _∷_, _++_}
+use Prim.Native.Nat.{ℕ, zero, suc, _+_, _/_, _≤_, _<_}
+use lib.ListN.{length, getD}
+use Rattle.window.specs.Window.{limit}
+use Rattle.sessions.specs.declared.session.Session.{Session}
+use Rattle.sessions.specs.declared.sessions.Found.the-variants.{Got}
+use Rattle.sessions.specs.declared.sessions.Sessions.{Sessions}
+use Rattle.sessions.specs.Index.{slotIn, wrappingIncrement}
+use Rattle.sessions.specs.Store.{slotOf}
+use Rattle.sessions.specs.Session.{caseReserved, reserveCounters}
+use Rattle.sessions.specs.Sessions.{slotAt, currentOf, inCurrentSlot, nextIndex, insert, expiredSlot, expire}
+use Rattle.sessions.specs.Batch.{receive}
+
+-- a slot has the same record and the same words before and after
+pub record Kept (s last : Sessions) (store left : List ℕ) (slot : ℕ) : Type 0 where
+  pub session : slotAt last slot ≡ slotAt s slot
+  pub words : slotOf left slot ≡ slotOf store slot
+
+-- A store of 1,024 words: a batch, an insertion and an expiry leave every slot that they do not name as it was.
+pub record SlotsApart (s : Sessions) (store : List ℕ) (slot : ℕ) : Type 0 where
+  -- a batch for an index of another slot
+  pub batch : (index id now : ℕ) (counters kinds verdicts : List ℕ) → (slot ≡ slotIn index → ⊥)
+      → Kept s (receive s store index id now counters kinds verdicts .received .sessions) store (receive s store index id now counters kinds verdicts .store) slot
+  -- a session inserted into another slot
+  pub insertion : (session : Session) → (slot ≡ slotIn (session .«receiving_index») → ⊥)
+      → Kept s (insert s store session .sessions) store (insert s store session .store) slot
+  -- an expiry where this slot is not due
+  pub expiry : (now : ℕ) → expiredSlot s slot now ≡ false → Kept s (expire s store now .expired .sessions) store (expire s store now .store) slot
+
+-- The index allocated next:
+pub record NextIndexLaw (s : Sessions) : Type 0 where
+  -- it never has the slot of the current session
+  pub apart : (session : Session) → currentOf s ≡ Got session → slotIn (nextIndex s .index) ≡ slotIn (session .«receiving_index») → ⊥
+  -- it is the following number where that has not the current session's slot, else the one after it
+  pub one : inCurrentSlot s (wrappingIncrement (s .«last_index»)) ≡ false → nextIndex s .index ≡ wrappingIncrement (s .«last_index»)
+  pub two : inCurrentSlot s (wrappingIncrement (s .«last_index»)) ≡ true → nextIndex s .index ≡ wrappingIncrement (wrappingIncrement (s .«last_index»))
+  -- the upper 24 bits stay
+  pub upper : nextIndex s .index / 256 ≡ s .«last_index» / 256
+  -- the next allocation goes on from it
+  pub goes-on : nextIndex s .sessions .«last_index» ≡ nextIndex s .index
+
+-- so many consecutive counters
+unfoldable pub countersFrom : ℕ → ℕ → List ℕ
+countersFrom first zero = []
+countersFrom first (suc count) = first ∷ countersFrom (suc first) count
+
+-- the counters that a session grants to reservations of these lengths, one after the other; a refused one grants none
+unfoldable pub granted : Session → List ℕ → List ℕ
+granted s [] = []
+granted s (len ∷ lens) = caseReserved (reserveCounters s len) (granted s lens) (λ first next. countersFrom first len ++ granted next lens)
+
+-- The counters granted by a session that starts at 0: the k-th is k, and it is below LIMIT.
+pub record ReservationLaw (s : Session) (lens : List ℕ) : Type 0 where
+  pub counts : (k : ℕ) → k < length (granted s lens) → getD (granted s lens) k 0 ≡ k
+  pub below : (k : ℕ) → k < length (granted s lens) → k < limit
