@@ -2,23 +2,22 @@
 -- Assumes nothing.
 use mathlib.Core.Path.{_≡_, refl, ap, sym, _∙_}
 use mathlib.Core.Bool.{Bool, true, false}
-use mathlib.Core.List.{List, [], _∷_, _++_, append-assoc}
+use mathlib.Core.List.{List, _++_, append-assoc}
 use Prim.Native.Nat.{ℕ, zero, suc, _+_, _-_, _*_, _%_, _≤_, _<_}
-use native.Mathlib.Decide.{ℕ-discrete, decLe}
+use native.Mathlib.Decide.{decLe}
 use native.Mathlib.Omega.{arith}
 use lib.Dec.{eqb}
-use lib.ListN.{length, take, drop, getD, set, replicate, length-append, length-drop, length-replicate, take-append-drop}
+use lib.ListN.{length, take, drop, getD, set, length-append, length-drop, length-replicate, take-append-drop}
 use lib.Seq.{drop-drop, length-take-le, take-append-le, drop-append-le, drop-append-add, take-at, drop-at, getD-set-other}
 use borrow.Author.Tests.{eqb-true}
 use Rattle.base.specs.Choice.{choose}
 use Rattle.sessions.specs.declared.session.Session.{Session}
-use Rattle.sessions.specs.declared.sessions.Found.{Found}
-use Rattle.sessions.specs.declared.sessions.Found.the-variants.{Nothing, Got}
+use Rattle.sessions.specs.declared.sessions.Found.the-variants.{Nothing}
 use Rattle.sessions.specs.declared.sessions.Sessions.{Sessions}
 use Rattle.sessions.specs.declared.sessions.Expired.{Expired}
 use Rattle.sessions.specs.Index.{slotIn}
 use Rattle.sessions.specs.Store.{slotOf, putSlot, zeros}
-use Rattle.sessions.specs.Session.{emptySession, expiredAt, withId}
+use Rattle.sessions.specs.Session.{emptySession, withId}
 use Rattle.sessions.specs.Sessions.{slotAt, put, emptied, inserting, insert, isIndex, discard, expiredSlot, Expiring, expireSlot, expireFirst, expire}
 use Rattle.sessions.specs.Laws.{Kept}
 

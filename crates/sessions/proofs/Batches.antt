@@ -2,8 +2,8 @@
 -- Assumes nothing.
 use mathlib.Core.Path.{_≡_, refl, ap, sym, _∙_}
 use mathlib.Core.Bool.{Bool, true, false}
-use mathlib.Core.List.{List, [], _∷_, _++_, append-assoc, append-nil}
-use Prim.Native.Nat.{ℕ, zero, suc, _+_, _-_, _*_, _%_, _≤_, _<_}
+use mathlib.Core.List.{List, _++_, append-nil}
+use Prim.Native.Nat.{ℕ, suc, _+_, _-_, _*_, _%_, _≤_, _<_}
 use native.Mathlib.Numerals.{add-one}
 use native.Mathlib.Omega.{arith}
 use lib.Dec.{ltb, eqb}
@@ -12,7 +12,7 @@ use lib.Seq.{drop-cons, take-suc-set, take-all, append-snoc}
 use borrow.Author.Tests.{eq-eqb, ne-eqb, lt-ltb, le-ltb, eqb-true}
 use borrow.Rule.Slice.PartMut.{putMid}
 use Rattle.base.specs.Choice.{choose}
-use Rattle.window.specs.Window.{willAccept, nextAfter, wordsAfter, markDidReceive, Marks}
+use Rattle.window.specs.Window.{willAccept, nextAfter, markDidReceive, Marks}
 use Rattle.window.specs.declared.Marked.{Marked}
 use Rattle.sessions.specs.declared.batch.Progress.{Progress}
 use Rattle.sessions.specs.declared.batch.Finished.{Finished}
@@ -23,7 +23,7 @@ use Rattle.sessions.specs.declared.sessions.Found.the-variants.{Nothing,
 use Rattle.sessions.specs.declared.sessions.Sessions.{Sessions}
 use Rattle.sessions.specs.Store.{slotOf, putSlot, Leaves}
 use Rattle.sessions.specs.Sessions.{caseFound, put}
-use Rattle.sessions.specs.Batch.{known, fits, accepting, finish, finishWords, Batch, withVerdict, finishAll, Finishes, started, withProgress, receivingSession, refused, Ready, batchOf, FinishesSlot, answered, commit, receive, Receives}
+use Rattle.sessions.specs.Batch.{known, fits, accepting, finish, finishWords, FinishesAt, Batch, withVerdict, finishAll, Finishes, started, withProgress, receivingSession, refused, Ready, FinishesSlot, answered, commit, receive, Receives}
 use Rattle.sessions.proofs.Words.{part-is, part-put}
 
 -- a search for a kind that is none of the three has found none among the first
@@ -103,6 +103,13 @@ module _ (words : List ℕ) (progress : Progress) (counter kind : ℕ) where
         (finish words progress counter kind) last (finishWords words progress counter kind)
     taken-keepalive h k = taken (progress .«data») h (unfold choose in rw (ne-eqb kind 0 k))
 
+-- the message at a place of the lists
+pub message-done : (words : List ℕ) (progress : Progress) (counters kinds verdicts : List ℕ) (i : ℕ) (last : List ℕ) (f : Finished)
+    → Leaves f (finish words progress (getD counters i 0) (getD kinds i 0)) last (finishWords words progress (getD counters i 0) (getD kinds i 0))
+    → FinishesAt words progress counters kinds verdicts i (f .progress) last (set verdicts i (f .verdict))
+message-done words progress counters kinds verdicts i last f l =
+    record { out = ap (λ (x : Finished). x .progress) (l .out); words-left = l .words; list = ap (λ (x : Finished). set verdicts i (x .verdict)) (l .out) }
+
 -- what a batch comes to with verdicts given before
 abbrev pub after : List ℕ → Batch → Batch
 after verdicts b = record { words = b .words; progress = b .progress; verdicts = verdicts ++ b .verdicts }
@@ -129,16 +136,16 @@ module _ (came : List ℕ) (start : Progress) (counters kinds : List ℕ) where
     unfolding finishAll
     next-message h = rw (drop-cons counters i 0 h, drop-cons kinds i 0 (omega (arith, g .kinds-long)))
 
-    pub batch-turn : (last given : List ℕ) (f : Finished) → i < length counters
-        → Leaves f (finish words progress (getD counters i 0) (getD kinds i 0)) last (finishWords words progress (getD counters i 0) (getD kinds i 0))
-        → given ≡ set verdicts i (f .verdict) → length last ≡ length words → Going came start counters kinds last given (f .progress) (i + 1)
-    batch-turn last given f h l e same =
+    pub batch-turn : (last given : List ℕ) (next : Progress) → i < length counters → FinishesAt words progress counters kinds verdicts i next last given
+        → length last ≡ length words → Going came start counters kinds last given next (i + 1)
+    batch-turn last given next h f same =
         record {
           within = omega arith;
           kinds-long = g .kinds-long;
-          verdicts-long = ap length e ∙ length-set verdicts i (f .verdict) ∙ g .verdicts-long;
+          verdicts-long = ap length (f .list) ∙ simp length-set (g .verdicts-long);
           words-long = same ∙ g .words-long;
-          rest = g .rest ∙ ap (after (take i verdicts)) (next-message h) ∙ rw (add-one, ← l .out, ← l .words, e, take-suc-set verdicts i (f .verdict) (omega (arith, g .verdicts-long)), append-snoc);
+          rest = g .rest ∙ ap (after (take i verdicts)) (next-message h)
+              ∙ rw (add-one, ← f .out, ← f .words-left, f .list, take-suc-set verdicts i _ (omega (arith, g .verdicts-long)), append-snoc);
         }
 
     pub batch-ends : length counters ≤ i → Finishes (finishAll came start counters kinds) progress words verdicts

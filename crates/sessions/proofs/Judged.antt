@@ -6,26 +6,25 @@ use mathlib.Core.List.{List, [], _∷_}
 use Prim.Native.Nat.{ℕ, _+_, _-_, _%_, _≤_, _<_}
 use native.Mathlib.Omega.{arith}
 use lib.Dec.{eqb}
-use lib.ListN.{length, getD, set, replicate}
+use lib.ListN.{length, getD, set}
 use lib.Seq.{getD-set-same}
 use borrow.Author.Tests.{eqb-true, eqb-false, eq-eqb, ne-eqb}
 use Rattle.base.specs.Choice.{choose}
 use Rattle.window.specs.Window.{limit, empty, willAccept, nextAfter, wordsAfter}
-use Rattle.window.specs.History.{member, expected, judged, committing, amongLast, Represents}
+use Rattle.window.specs.History.{member, expected, judged, committing, Represents}
 use Rattle.window.proofs.History.{represents-fresh, represents-verdict, judged-zero, judged-only, represents-commit}
 use Rattle.window.proofs.Counted.{represents-ones}
 use Rattle.sessions.specs.declared.batch.Progress.{Progress}
 use Rattle.sessions.specs.declared.session.Session.{Session}
-use Rattle.sessions.specs.declared.sessions.Found.the-variants.{Got}
 use Rattle.sessions.specs.declared.sessions.Sessions.{Sessions}
 use Rattle.sessions.specs.Index.{slotIn}
 use Rattle.sessions.specs.Store.{slotOf, putSlot, zeros, onesOf, missingOf}
 use Rattle.sessions.specs.Session.{emptySession, withId}
 use Rattle.sessions.specs.Sessions.{caseFound, slotAt, put, inserting, insert}
-use Rattle.sessions.specs.Batch.{fits, accepting, finish, finishWords, finishAll, started, batchOf, withProgress, receivingSession, answered, committedTo, commit, receive}
+use Rattle.sessions.specs.Batch.{accepting, finish, finishWords, finishAll, started, batchOf, withProgress, answered, committedTo, commit, receive}
 use Rattle.sessions.specs.History.{verdictOn, historyAfter, verdictsOn, batchHistory, Stands, VerdictLaw, Live, BatchLaw, FreshLaw, MissingLaw}
-use Rattle.sessions.proofs.Apart.{slot-same, length-zeros}
-use Rattle.sessions.proofs.Received.{InSlot, receiving-slot, length-batch, progress-next, committed-slots}
+use Rattle.sessions.proofs.Apart.{slot-same}
+use Rattle.sessions.proofs.Received.{InSlot, receiving-slot, progress-next, committed-slots}
 
 -- one message
 module _ (history words : List ℕ) (p : Progress) (r : Represents history words (p .next)) (c k : ℕ) where
@@ -109,9 +108,9 @@ module _ (s : Sessions) (store : List ℕ) (index id now : ℕ) (counters kinds 
         number = number-is;
         judges = rw goes (judges-all history (slotOf store (slotIn (x .«receiving_index»))) (started x) begun counters kinds);
         stands = rw (goes, ← its .named)
-        (put-stands (batchHistory history counters kinds) s (committedTo s store x (batchOf store x counters kinds) .received .sessions) store (batchOf store x counters kinds .words) (x .«receiving_index» % 8) (withProgress x (batchOf store x counters kinds .progress)) (live .eight) (live .size)
-        (omega arith) (committed-slots s store x (batchOf store x counters kinds))
-        (rw progress-next (stands-all history (slotOf store (slotIn (x .«receiving_index»))) (started x) begun counters kinds)));
+            (put-stands (batchHistory history counters kinds) s (committedTo s store x (batchOf store x counters kinds) .received .sessions) store (batchOf store x counters kinds .words) (x .«receiving_index» % 8) (withProgress x (batchOf store x counters kinds .progress)) (live .eight) (live .size)
+            (omega arith) (committed-slots s store x (batchOf store x counters kinds))
+            (rw progress-next (stands-all history (slotOf store (slotIn (x .«receiving_index»))) (started x) begun counters kinds)));
       }
 
 -- a verdict of 0 exactly where document 01 says
@@ -141,7 +140,7 @@ unfolding insert inserting put choose
 fresh-law s store x n l z =
     record {
       stands = rw (eq-eqb (length store) 1024 l)
-      (put-stands [] s (inserting s x) store (zeros 128) (x .«receiving_index» % 8) (withId x (s .inserted)) n l (omega arith) refl (rw (zeros-empty, z) represents-fresh));
+          (put-stands [] s (inserting s x) store (zeros 128) (x .«receiving_index» % 8) (withId x (s .inserted)) n l (omega arith) refl (rw (zeros-empty, z) represents-fresh));
     }
 
 -- the missing count

@@ -1,9 +1,9 @@
 -- The loops over the slots and over a store's words: where each begins, a turn, and where it ends.
 -- Assumes nothing.
 use mathlib.Core.Path.{_≡_, refl, ap, sym, _∙_}
-use mathlib.Core.Bool.{Bool, true, false}
-use mathlib.Core.List.{List, [], _∷_, map}
-use Prim.Native.Nat.{ℕ, zero, suc, _+_, _-_, _*_, _^_, _≤_, _<_}
+use mathlib.Core.Bool.{true, false}
+use mathlib.Core.List.{List, map}
+use Prim.Native.Nat.{ℕ, suc, _+_, _-_, _*_, _^_, _≤_, _<_}
 use native.Mathlib.Nat.{add-assoc, add-zero}
 use native.Mathlib.Numerals.{add-one}
 use native.Mathlib.Omega.{arith}
@@ -19,8 +19,8 @@ use Rattle.sessions.specs.declared.sessions.Found.the-variants.{Nothing}
 use Rattle.sessions.specs.declared.sessions.Sessions.{Sessions}
 use Rattle.sessions.specs.declared.sessions.Expired.{Expired}
 use Rattle.sessions.specs.Store.{onesOf, Counted, missingOf, Leaves}
-use Rattle.sessions.specs.Session.{timeLimit, emptySession, newSession, earlier}
-use Rattle.sessions.specs.Sessions.{TimesWithin, slotAt, noneFilled, slotExpiry, firstExpiry, Expiring, expireSlot, Expires, expireFirst, expire}
+use Rattle.sessions.specs.Session.{timeLimit, emptySession, earlier}
+use Rattle.sessions.specs.Sessions.{TimesWithin, slotAt, noneFilled, slotExpiry, firstExpiry, Expires, expireFirst, expire}
 
 -- the length of a list of records, read off a field's
 pub long : {A B : Type 0} (f : A → B) (l : List A) (n : ℕ) → length (map f l) ≡ n → length l ≡ n

@@ -3,14 +3,12 @@
 use mathlib.Core.Path.{_≡_, refl, ap, sym, _∙_}
 use mathlib.Core.Bool.{Bool, true, false}
 use mathlib.Core.List.{List, [], _∷_}
-use Prim.Native.Nat.{ℕ, _%_, _<_}
+use Prim.Native.Nat.{ℕ, _%_}
 use native.Mathlib.Omega.{arith}
 use lib.Dec.{eqb}
-use lib.ListN.{length, getD, set}
-use lib.Seq.{getD-set-same}
-use borrow.Author.Tests.{eqb-true, eq-eqb}
+use lib.ListN.{length, set}
+use borrow.Author.Tests.{eqb-true}
 use Rattle.base.specs.Choice.{choose}
-use Rattle.window.specs.Window.{wordsAfter}
 use Rattle.window.proofs.Ready.{length-wordsAfter}
 use Rattle.sessions.specs.declared.batch.Progress.{Progress}
 use Rattle.sessions.specs.declared.session.Session.{Session}
@@ -18,8 +16,8 @@ use Rattle.sessions.specs.declared.sessions.Found.{Found}
 use Rattle.sessions.specs.declared.sessions.Found.the-variants.{Nothing, Got}
 use Rattle.sessions.specs.declared.sessions.Sessions.{Sessions}
 use Rattle.sessions.specs.Index.{slotIn}
-use Rattle.sessions.specs.Store.{slotOf, putSlot}
-use Rattle.sessions.specs.Session.{emptySession, expiredAt}
+use Rattle.sessions.specs.Store.{slotOf}
+use Rattle.sessions.specs.Session.{expiredAt}
 use Rattle.sessions.specs.Sessions.{caseFound, slotAt, inSlotOf, get, put}
 use Rattle.sessions.specs.Batch.{fits, finish, finishWords, Batch, finishAll, started, batchOf, withProgress, receivingSession, Outcome, refused, untouched, answered, committedTo, commit, receive}
 use Rattle.sessions.specs.Laws.{Kept, SlotsApart}

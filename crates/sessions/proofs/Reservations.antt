@@ -4,7 +4,7 @@ use mathlib.Core.Path.{_≡_, refl, ap, sym, _∙_}
 use mathlib.Core.Bool.{Bool, true, false}
 use mathlib.Core.List.{List, [], _∷_, _++_}
 use Prim.Native.Nat.{ℕ, zero, suc, _+_, _≤_, _<_}
-use native.Mathlib.Nat.{add-suc, suc-add, zero-add, add-zero}
+use native.Mathlib.Nat.{zero-add, add-zero}
 use native.Mathlib.Omega.{arith}
 use lib.Dec.{leb}
 use lib.ListN.{length, getD, length-append}
@@ -65,8 +65,8 @@ counts-step s len lens same next true e =
     rw (grants s len lens e)
     (record {
       counts = ap (λ (l : List ℕ). countersFrom (s .«sending_key_counter») len ++ l) (next .counts)
-      ∙ join-counters (s .«sending_key_counter») len (length (granted (onward s len) lens))
-      ∙ ap (countersFrom (s .«sending_key_counter»)) (sym size);
+          ∙ join-counters (s .«sending_key_counter») len (length (granted (onward s len) lens))
+          ∙ ap (countersFrom (s .«sending_key_counter»)) (sym size);
       below = λ h. (let rest : s .«sending_key_counter» + len + length (granted (onward s len) lens) ≤ limit = next .below fits in omega (arith, size));
     })
 
@@ -81,6 +81,6 @@ reservation-law s lens z =
     let all : Counts s (granted s lens) = counts-all s lens in
     record {
       counts = λ k h.
-      ap (λ (l : List ℕ). getD l k 0) (all .counts) ∙ counter-at (s .«sending_key_counter») (length (granted s lens)) k h ∙ omega arith;
+          ap (λ (l : List ℕ). getD l k 0) (all .counts) ∙ counter-at (s .«sending_key_counter») (length (granted s lens)) k h ∙ omega arith;
       below = λ k h. (let most : s .«sending_key_counter» + length (granted s lens) ≤ limit = all .below (omega arith) in omega arith);
     }

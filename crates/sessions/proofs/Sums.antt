@@ -1,12 +1,12 @@
 -- Comparisons of sums that the code makes by differences, which cannot overflow.
 -- Assumes nothing.
-use mathlib.Core.Path.{_≡_, refl, ap, sym, _∙_}
+use mathlib.Core.Path.{_≡_, refl, sym, _∙_}
 use mathlib.Core.Bool.{Bool, true, false}
 use Prim.Native.Nat.{ℕ, suc, _+_, _-_, _^_, _≤_, _<_}
 use native.Mathlib.Decide.{decLe}
 use native.Mathlib.Omega.{arith}
 use lib.Dec.{leb, ltb}
-use borrow.Author.Tests.{le-leb, lt-leb, lt-ltb, le-ltb, ltb-false}
+use borrow.Author.Tests.{le-leb, lt-leb, lt-ltb, ltb-false}
 use Rattle.base.proofs.Choice.{yes-le, no-le}
 use Rattle.window.specs.Window.{limit}
 use Rattle.sessions.specs.declared.range.Range.{Range}

@@ -1,32 +1,26 @@
 -- One law for each way out of the ring's functions: what the code hands back is what the definition says, under the tests that led there.
 -- Assumes nothing.
-use mathlib.Core.Path.{_≡_, refl, ap, sym, _∙_}
+use mathlib.Core.Path.{_≡_, refl, ap, _∙_}
 use mathlib.Core.Bool.{Bool, true, false}
 use mathlib.Core.List.{List, [], _∷_}
-use Prim.Native.Nat.{ℕ, zero, suc, _+_, _-_, _*_, _%_, _^_, _≤_, _<_}
-use native.Mathlib.Nat.{le-antisymm}
-use native.Mathlib.Numerals.{add-one}
-use native.Mathlib.Omega.{arith}
-use lib.ListN.{length, getD, set, take, drop, length-set}
+use Prim.Native.Nat.{ℕ, _+_, _-_, _*_, _%_, _^_}
+use lib.ListN.{length, set, take, drop}
 use borrow.Author.Tests.{eq-eqb, ne-eqb}
 use Rattle.base.specs.Choice.{choose}
-use Rattle.base.proofs.Choice.{yes-eq, no-eq, yes-flag, no-flag}
+use Rattle.base.proofs.Choice.{yes-eq}
 use Rattle.window.specs.Window.{willAccept}
 use Rattle.sessions.specs.declared.session.Role.the-variants.{Initiator}
 use Rattle.sessions.specs.declared.session.Session.{Session}
-use Rattle.sessions.specs.declared.session.Time.{Time}
 use Rattle.sessions.specs.declared.sessions.Found.{Found}
 use Rattle.sessions.specs.declared.sessions.Found.the-variants.{Nothing, Got}
 use Rattle.sessions.specs.declared.sessions.Selected.the-variants.{Unset}
-use Rattle.sessions.specs.declared.sessions.Missing.{Missing}
 use Rattle.sessions.specs.declared.sessions.Missing.the-variants.{Refused, Count}
 use Rattle.sessions.specs.declared.sessions.Sessions.{Sessions}
-use Rattle.sessions.specs.declared.sessions.Allocated.{Allocated}
 use Rattle.sessions.specs.declared.sessions.Expired.{Expired}
 use Rattle.sessions.specs.Index.{slotIn, wrappingIncrement}
 use Rattle.sessions.specs.Store.{slotOf, putSlot, zeros, missingOf, Leaves}
-use Rattle.sessions.specs.Session.{newSession, withFilled, withId, emptySession, willReceive, earlier}
-use Rattle.sessions.specs.Sessions.{caseFound, ring, withSlots, withCurrent, withLastIndex, withInserted, slotAt, emptySlots, newSessions, get, put, inCurrentSlot, indexAfter, nextIndex, inserting, insert, isIndex, clear, emptied, expiredSlot, Expiring, discard, expireSlot, Expires, expireFirst, expire, slotExpiry, firstExpiry, missing}
+use Rattle.sessions.specs.Session.{newSession, withFilled, withId, emptySession, willReceive}
+use Rattle.sessions.specs.Sessions.{caseFound, ring, withSlots, withCurrent, withLastIndex, withInserted, slotAt, emptySlots, newSessions, get, put, inCurrentSlot, indexAfter, nextIndex, inserting, insert, isIndex, clear, emptied, expiredSlot, discard, expireSlot, Expires, expire, missing}
 use Rattle.sessions.proofs.Words.{part-is}
 
 -- an empty slot's record, made from a new session

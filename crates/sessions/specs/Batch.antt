@@ -3,8 +3,8 @@ use mathlib.Core.Path.{_≡_}
 use mathlib.Core.Bool.{Bool, true, false}
 use mathlib.Core.List.{List, [], _∷_}
 use Prim.Native.Nat.{ℕ}
-use lib.Dec.{ltb, leb, eqb}
-use lib.ListN.{length}
+use lib.Dec.{ltb, eqb}
+use lib.ListN.{length, getD, set}
 use Rattle.base.specs.Choice.{choose}
 use Rattle.window.specs.Window.{willAccept, nextAfter, wordsAfter}
 use Rattle.sessions.specs.Index.{slotIn}
@@ -45,6 +45,12 @@ finish words progress counter kind =
 -- the window's words after one message
 unfoldable pub finishWords : List ℕ → Progress → (counter kind : ℕ) → List ℕ
 finishWords words progress counter kind = choose (eqb kind 2) words (wordsAfter words (progress .next) counter)
+
+-- what the message at a place of the lists hands back: the progress, the words, and its verdict at that place
+pub record FinishesAt (words : List ℕ) (progress : Progress) (counters kinds verdicts : List ℕ) (i : ℕ) (answer : Progress) (left given : List ℕ) : Type 0 where
+  pub out : answer ≡ finish words progress (getD counters i 0) (getD kinds i 0) .progress
+  pub words-left : left ≡ finishWords words progress (getD counters i 0) (getD kinds i 0)
+  pub list : given ≡ set verdicts i (finish words progress (getD counters i 0) (getD kinds i 0) .verdict)
 
 -- what a batch has come to: the window's words, the progress and the verdicts
 pub record Batch : Type 0 where

@@ -1,8 +1,8 @@
 -- What follows from the definitions: which slots a call touches, which index is allocated, and which counters are granted.
 use mathlib.Core.Path.{_≡_}
-use mathlib.Core.Bool.{Bool, true, false}
+use mathlib.Core.Bool.{true, false}
 use mathlib.Core.List.{List, [], _∷_, _++_}
-use Prim.Native.Nat.{ℕ, zero, suc, _+_, _/_, _≤_, _<_}
+use Prim.Native.Nat.{ℕ, zero, suc, _+_, _/_, _<_}
 use lib.ListN.{length, getD}
 use Rattle.window.specs.Window.{limit}
 use Rattle.sessions.specs.declared.session.Session.{Session}

@@ -6,7 +6,7 @@ ghost use mathlib.Core.Path.{_≡_};
 ghost use Prim.Native.Nat.{_<_};
 ghost use lib.ListN.{length};
 ghost use Rattle.sessions.specs.Store.{Leaves};
-ghost use Rattle.sessions.specs.Batch.{known, fits, finish, finishWords, started, finishAll, Finishes, Ready, FinishesSlot, withProgress, refused, answered, receivingSession, commit, receive, Receives};
+ghost use Rattle.sessions.specs.Batch.{known, fits, finish, finishWords, FinishesAt, started, finishAll, Finishes, Ready, FinishesSlot, withProgress, refused, answered, receivingSession, commit, receive, Receives};
 
 // The kinds of a message: it opened as data, it opened as a keepalive, or it did not open.
 pub const DATA: u8 = 0;
@@ -123,6 +123,23 @@ fn started(session: Session) -> Progress
     }
 }
 
+// Commits the message at a place of the lists to a window's words, and puts its verdict at that place.
+fn finish_at(
+    words: &mut [u64],
+    progress: Progress,
+    counters: &[u64],
+    kinds: &[u8],
+    verdicts: &mut [u8],
+    i: usize,
+) -> Progress
+    requires { ⌜ (i < length (now counters)) × (length (now kinds) ≡ length (now counters)) × (length (now verdicts) ≡ length (now counters)) ⌝ }
+    ensures { λ r. ⌜ FinishesAt (now (words .entry)) progress (now (counters .entry)) (now (kinds .entry)) (now (verdicts .entry)) i r (now (words .exit)) (now (verdicts .exit)) ⌝ }
+{
+    let finished = finish_receive_packet_data(words, progress, counters[i], kinds[i]);
+    verdicts[i] = finished.verdict;
+    finished.progress
+}
+
 // Commits the messages in order to a window's words, each with the window as those before it left it.
 fn finish_all(
     words: &mut [u64],
@@ -137,9 +154,7 @@ fn finish_all(
     let mut progress = start;
     let mut i = 0;
     while i < counters.len() {
-        let finished = finish_receive_packet_data(words, progress, counters[i], kinds[i]);
-        verdicts[i] = finished.verdict;
-        progress = finished.progress;
+        progress = finish_at(words, progress, counters, kinds, verdicts, i);
         i = i + 1;
     }
     progress

@@ -211,8 +211,9 @@ impl Session {
         if first > REJECT_AFTER_MESSAGES - len {
             return Reserved::TooFew;
         }
+        let end = first + len;
         let session = Session {
-            sending_key_counter: first + len,
+            sending_key_counter: end,
             ..self
         };
         Reserved::First(first, session)

@@ -8,11 +8,10 @@ use crate::store::missing_of;
 use crate::store::zero;
 use crate::store::zero_slot;
 ghost use mathlib.Core.Path.{_≡_};
-ghost use Prim.Native.Nat.{ℕ, _<_, _≤_};
+ghost use Prim.Native.Nat.{_<_};
 ghost use lib.ListN.{length};
-ghost use Rattle.sessions.specs.Session.{timeLimit};
 ghost use Rattle.sessions.specs.Store.{Leaves};
-ghost use Rattle.sessions.specs.Sessions.{slotAt, TimesWithin, newSessions, inSlotOf, get, put, currentOf, inCurrentSlot, nextIndex, insert, usable, sendingSession, isIndex, select, setCurrent, clear, emptied, expiredSlot, discard, Expires, expire, isEmpty, slotExpiry, nextExpiry, missing};
+ghost use Rattle.sessions.specs.Sessions.{TimesWithin, newSessions, inSlotOf, get, put, currentOf, inCurrentSlot, nextIndex, insert, usable, sendingSession, isIndex, select, setCurrent, clear, emptied, expiredSlot, discard, Expires, expire, isEmpty, slotExpiry, nextExpiry, missing};
 
 // What a lookup answers.
 pub enum Found {

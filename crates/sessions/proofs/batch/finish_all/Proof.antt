@@ -14,22 +14,8 @@ abbrev μ-loop : tie.MeasureT-loop
 loop-holds : tie.Need-loop-holds Inv-loop μ-loop
 loop-holds c = search (batch-begins, needs)
 
-mul-finish-receive-packet-data : tie.Need-mul-finish-receive-packet-data Inv-loop μ-loop
-mul-finish-receive-packet-data c = search needs
-
-shared-slice-read-finish-receive-packet-data :
-    tie.Need-shared-slice-read-finish-receive-packet-data Inv-loop μ-loop
-shared-slice-read-finish-receive-packet-data c = search needs
-
-shared-slice-read-finish-receive-packet-data-2 :
-    tie.Need-shared-slice-read-finish-receive-packet-data-2 Inv-loop μ-loop
-shared-slice-read-finish-receive-packet-data-2 c = search needs
-
-finish-receive-packet-data-requires : tie.Need-finish-receive-packet-data-requires Inv-loop μ-loop
-finish-receive-packet-data-requires c κs = search needs
-
-slice-write-verdicts : tie.Need-slice-write-verdicts Inv-loop μ-loop
-slice-write-verdicts c = search needs
+finish-at-requires : tie.Need-finish-at-requires Inv-loop μ-loop
+finish-at-requires c κs = search needs
 
 add-i : tie.Need-add-i Inv-loop μ-loop
 add-i c = search needs
@@ -56,11 +42,7 @@ finish-all-spec =
     Inv-loop
     μ-loop
     loop-holds
-    mul-finish-receive-packet-data
-    shared-slice-read-finish-receive-packet-data
-    shared-slice-read-finish-receive-packet-data-2
-    finish-receive-packet-data-requires
-    slice-write-verdicts
+    finish-at-requires
     add-i
     loop-less
     loop-again

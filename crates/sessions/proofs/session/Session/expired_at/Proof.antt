@@ -4,10 +4,10 @@ use Rattle.sessions.proofs.session.Session.expired_at.Statement.{statem
 use Rattle.sessions.proofs.session.Session.expired_at.Tie as tie
 
 returns : tie.Need-returns
-returns c = search (before-expiry, age-expired, needs)
+returns c = search (before-expiry, needs)
 
 returns-2 : tie.Need-returns-2
-returns-2 c = search (before-expiry, age-expired, needs)
+returns-2 c = search (age-expired, needs)
 
 pub expired-at-spec : {M : Type 1} → statement M
 expired-at-spec = tie.close (tie.spec returns returns-2)

@@ -1,5 +1,4 @@
 use Rattle.sessions.proofs.Ways.{looked}
-use Rattle.sessions.proofs.Words.{part-is}
 use Rattle.base.proofs.Choice.{picks}
 use Rattle.sessions.specs.Session.{willReceive}
 use borrow.Author.Needs.{needs}
@@ -8,11 +7,11 @@ use Rattle.sessions.proofs.session.Session.will_receive.Tie as tie
 
 returns : tie.Need-returns
 unfolding willReceive
-returns c = search (picks, part-is, needs)
+returns c = search (picks, needs)
 
 returns-2 : tie.Need-returns-2
 unfolding willReceive
-returns-2 c = search (picks, part-is, needs)
+returns-2 c = search (picks, needs)
 
 cast-start : tie.Need-cast-start
 cast-start c = search needs

@@ -1,0 +1,43 @@
+use Rattle.sessions.proofs.Batches.{message-done}
+use borrow.Author.Needs.{needs}
+use Rattle.sessions.proofs.batch.finish_at.Statement.{statement}
+use Rattle.sessions.proofs.batch.finish_at.Tie as tie
+
+mul-finish-receive-packet-data : tie.Need-mul-finish-receive-packet-data
+mul-finish-receive-packet-data c = search needs
+
+shared-slice-read-finish-receive-packet-data :
+    tie.Need-shared-slice-read-finish-receive-packet-data
+shared-slice-read-finish-receive-packet-data c = search needs
+
+shared-slice-read-finish-receive-packet-data-2 :
+    tie.Need-shared-slice-read-finish-receive-packet-data-2
+shared-slice-read-finish-receive-packet-data-2 c = search needs
+
+finish-receive-packet-data-requires : tie.Need-finish-receive-packet-data-requires
+finish-receive-packet-data-requires c κs = search needs
+
+slice-write-verdicts : tie.Need-slice-write-verdicts
+slice-write-verdicts c = search needs
+
+same-length : tie.Need-same-length
+same-length c = search needs
+
+same-length-2 : tie.Need-same-length-2
+same-length-2 c = search needs
+
+returns : tie.Need-returns
+returns c = search (message-done, needs)
+
+pub finish-at-spec : {M : Type 1} → statement M
+finish-at-spec =
+    tie.close
+    (tie.spec
+    mul-finish-receive-packet-data
+    shared-slice-read-finish-receive-packet-data
+    shared-slice-read-finish-receive-packet-data-2
+    finish-receive-packet-data-requires
+    slice-write-verdicts
+    same-length
+    same-length-2
+    returns)
