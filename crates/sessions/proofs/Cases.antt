@@ -11,8 +11,12 @@ use Rattle.sessions.specs.declared.sessions.Found.{Found}
 use Rattle.sessions.specs.declared.sessions.Found.the-variants.{Nothing, Got}
 use Rattle.sessions.specs.declared.sessions.Selected.{Selected}
 use Rattle.sessions.specs.declared.sessions.Selected.the-variants.{Unset, Index}
-use Rattle.sessions.specs.Session.{caseTime, caseRole}
-use Rattle.sessions.specs.Sessions.{caseFound, caseSelected}
+use Rattle.sessions.specs.declared.session.Reserved.{Reserved}
+use Rattle.sessions.specs.declared.session.Reserved.the-variants.{TooFew, First}
+use Rattle.sessions.specs.declared.sessions.Missing.{Missing}
+use Rattle.sessions.specs.declared.sessions.Missing.the-variants.{Refused, Count}
+use Rattle.sessions.specs.Session.{caseTime, caseRole, caseReserved}
+use Rattle.sessions.specs.Sessions.{caseFound, caseSelected, caseMissing}
 
 module _ {A : Type 0} where
   pub is-never : (d : Time) (v x : A) (f : ℕ → A) → d ≡ Never → v ≡ x → v ≡ caseTime d x f
@@ -48,4 +52,22 @@ module _ {A : Type 0} where
   unfolding caseSelected
   is-index selected index v x f p q = rw p q
 
-pub ruleset cases = (is-never, is-at, is-initiator, is-responder, is-nothing, is-got, is-unset, is-index)
+  -- what a reservation and a missing report answered
+  pub is-too-few : (got reserved : Reserved) (v x : A) (f : ℕ → Session → A) → got ≡ reserved → got ≡ TooFew → v ≡ x → v ≡ caseReserved reserved x f
+  unfolding caseReserved
+  is-too-few got reserved v x f e p q = rw (← e, p) q
+
+  pub is-first : (got reserved : Reserved) (first : ℕ) (session : Session) (v x : A) (f : ℕ → Session → A) → got ≡ reserved → got ≡ First first session
+      → v ≡ f first session → v ≡ caseReserved reserved x f
+  unfolding caseReserved
+  is-first got reserved first session v x f e p q = rw (← e, p) q
+
+  pub is-refused : (got missing : Missing) (number : ℕ) (v : A) (f g : ℕ → A) → got ≡ missing → got ≡ Refused number → v ≡ f number → v ≡ caseMissing missing f g
+  unfolding caseMissing
+  is-refused got missing number v f g e p q = rw (← e, p) q
+
+  pub is-count : (got missing : Missing) (count : ℕ) (v : A) (f g : ℕ → A) → got ≡ missing → got ≡ Count count → v ≡ g count → v ≡ caseMissing missing f g
+  unfolding caseMissing
+  is-count got missing count v f g e p q = rw (← e, p) q
+
+pub ruleset cases = (is-never, is-at, is-initiator, is-responder, is-nothing, is-got, is-unset, is-index, is-too-few, is-first, is-refused, is-count)

@@ -21,8 +21,8 @@ use Rattle.sessions.specs.Index.{slotIn}
 use Rattle.sessions.specs.Store.{slotOf, putSlot, zeros, onesOf, missingOf}
 use Rattle.sessions.specs.Session.{emptySession, withId}
 use Rattle.sessions.specs.Sessions.{caseFound, slotAt, put, inserting, insert}
-use Rattle.sessions.specs.Batch.{accepting, finish, finishWords, finishAll, started, batchOf, withProgress, answered, committedTo, commit, receive}
-use Rattle.sessions.specs.History.{verdictOn, historyAfter, verdictsOn, batchHistory, Stands, VerdictLaw, Live, BatchLaw, FreshLaw, MissingLaw}
+use Rattle.sessions.specs.Batch.{accepting, finish, finishWords, Batch, finishAll, started, batchOf, withProgress, answered, committedTo, commit, receive}
+use Rattle.sessions.specs.History.{verdictOn, historyAfter, verdictsOn, batchHistory, Stands, VerdictLaw, Call, outcome, Live, BatchLaw, FreshLaw, MissingLaw}
 use Rattle.sessions.proofs.Apart.{slot-same}
 use Rattle.sessions.proofs.Received.{InSlot, receiving-slot, progress-next, committed-slots}
 
@@ -85,32 +85,37 @@ put-stands history s last store words k x n l low e r =
     rw (there, same) r
 
 -- the whole call
-module _ (s : Sessions) (store : List ℕ) (index id now : ℕ) (counters kinds verdicts history : List ℕ) (x : Session)
-    (live : Live s store index id now counters kinds verdicts history x) where
-  goes : receive s store index id now counters kinds verdicts ≡ committedTo s store x (batchOf store x counters kinds)
+module _ (c : Call) (x : Session) (history : List ℕ) (live : Live c x history) where
+  abbrev mine : Batch
+  mine = batchOf (c .store) x (c .counters) (c .kinds)
+
+  goes : outcome c ≡ committedTo (c .sessions) (c .store) x mine
   unfolding receive commit caseFound choose
-  goes = rw (eq-eqb (length store) 1024 (live .size), live .batch, live .found)
+  goes = rw (eq-eqb (length (c .store)) 1024 (live .size), live .batch, live .found)
 
-  its : InSlot s index x
-  its = receiving-slot s index id now x (live .found)
+  its : InSlot (c .sessions) (c .index) x
+  its = receiving-slot (c .sessions) (c .index) (c .id) (c .now) x (live .found)
 
-  begun : Represents history (slotOf store (slotIn (x .«receiving_index»))) (started x .next)
+  begun : Represents history (slotOf (c .store) (slotIn (x .«receiving_index»))) (started x .next)
   unfolding started
   begun = rw (its .named, its .stored) (live .stands)
 
-  number-is : receive s store index id now counters kinds verdicts .received .number ≡ 0
+  number-is : outcome c .received .number ≡ 0
   unfolding answered
   number-is = rw goes
 
-  pub batch-law : BatchLaw s store index id now counters kinds verdicts history x
+  ended : Represents (batchHistory history (c .counters) (c .kinds)) (mine .words) (withProgress x (mine .progress) .next)
+  ended = rw progress-next (stands-all history (slotOf (c .store) (slotIn (x .«receiving_index»))) (started x) begun (c .counters) (c .kinds))
+
+  pub batch-law : BatchLaw c history
   batch-law =
       record {
         number = number-is;
-        judges = rw goes (judges-all history (slotOf store (slotIn (x .«receiving_index»))) (started x) begun counters kinds);
+        judges = rw goes (judges-all history (slotOf (c .store) (slotIn (x .«receiving_index»))) (started x) begun (c .counters) (c .kinds));
         stands = rw (goes, ← its .named)
-            (put-stands (batchHistory history counters kinds) s (committedTo s store x (batchOf store x counters kinds) .received .sessions) store (batchOf store x counters kinds .words) (x .«receiving_index» % 8) (withProgress x (batchOf store x counters kinds .progress)) (live .eight) (live .size)
-            (omega arith) (committed-slots s store x (batchOf store x counters kinds))
-            (rw progress-next (stands-all history (slotOf store (slotIn (x .«receiving_index»))) (started x) begun counters kinds)));
+            (put-stands (batchHistory history (c .counters) (c .kinds)) (c .sessions) (committedTo (c .sessions) (c .store) x mine .received .sessions)
+            (c .store) (mine .words) (x .«receiving_index» % 8) (withProgress x (mine .progress)) (live .eight) (live .size) (omega arith)
+            (committed-slots (c .sessions) (c .store) x mine) ended);
       }
 
 -- a verdict of 0 exactly where document 01 says

@@ -59,7 +59,6 @@ counts-step : (s : Session) (len : ℕ) (lens : List ℕ) → Counts s (granted 
 counts-step s len lens same next false e = rw (refuses s len lens e) same
 counts-step s len lens same next true e =
     let fits : s .«sending_key_counter» + len ≤ limit = leb-true (s .«sending_key_counter» + len) limit e in
-    let tail : ℕ = length (granted (onward s len) lens) in
     let size : length (countersFrom (s .«sending_key_counter») len ++ granted (onward s len) lens) ≡ len + length (granted (onward s len) lens) =
     length-append (countersFrom (s .«sending_key_counter») len) (granted (onward s len) lens) ∙ ap (λ (n : ℕ). n + length (granted (onward s len) lens)) (length-counters (s .«sending_key_counter») len) in
     rw (grants s len lens e)

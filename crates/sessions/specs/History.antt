@@ -14,7 +14,7 @@ use Rattle.sessions.specs.declared.sessions.Sessions.{Sessions}
 use Rattle.sessions.specs.Index.{slotIn}
 use Rattle.sessions.specs.Store.{slotOf, missingOf}
 use Rattle.sessions.specs.Sessions.{slotAt, insert}
-use Rattle.sessions.specs.Batch.{fits, receivingSession, receive}
+use Rattle.sessions.specs.Batch.{fits, receivingSession, Outcome, receive}
 
 -- the verdict that a history calls for on a message: 7 where it failed to open, else the window's rule
 unfoldable pub verdictOn : List ℕ → (counter kind : ℕ) → ℕ
@@ -48,23 +48,34 @@ pub record VerdictLaw (history : List ℕ) (counter kind : ℕ) : Type 0 where
       → (kind ≡ 2 → ⊥) × (counter < limit) × (expected history ≤ counter + 8192) × (member counter history ≡ false)
   pub failed : kind ≡ 2 → (verdictOn history counter kind ≡ 7) × (historyAfter history counter kind ≡ history)
 
--- A batch for a live session whose slot stands for a history: it is not turned down, its verdicts are those that the history calls for,
--- and afterwards the slot stands for the history with the batch.
-pub record BatchLaw (s : Sessions) (store : List ℕ) (index id now : ℕ) (counters kinds verdicts history : List ℕ) (session : Session) : Type 0 where
-  pub number : receive s store index id now counters kinds verdicts .received .number ≡ 0
-  pub judges : receive s store index id now counters kinds verdicts .verdicts ≡ verdictsOn history counters kinds
-  pub stands : Stands (batchHistory history counters kinds)
-      (receive s store index id now counters kinds verdicts .received .sessions)
-      (receive s store index id now counters kinds verdicts .store)
-      (slotIn index)
+-- the arguments of a call for a batch
+pub record Call : Type 0 where
+  pub sessions : Sessions
+  pub store : List ℕ
+  pub index : ℕ
+  pub id : ℕ
+  pub now : ℕ
+  pub counters : List ℕ
+  pub kinds : List ℕ
+  pub verdicts : List ℕ
 
--- what a batch law asks: a whole ring and store, lists that make a batch, a live session, and its slot standing for the history
-pub record Live (s : Sessions) (store : List ℕ) (index id now : ℕ) (counters kinds verdicts history : List ℕ) (session : Session) : Type 0 where
-  pub eight : length (s .slots) ≡ 8
-  pub size : length store ≡ 1024
-  pub batch : fits counters kinds verdicts ≡ true
-  pub found : receivingSession s index id now ≡ Got session
-  pub stands : Stands history s store (slotIn index)
+-- what a call for a batch hands back
+abbrev pub outcome : Call → Outcome
+outcome c = receive (c .sessions) (c .store) (c .index) (c .id) (c .now) (c .counters) (c .kinds) (c .verdicts)
+
+-- a call with a whole ring and store and lists that make a batch, for a live session whose slot stands for a history
+pub record Live (c : Call) (session : Session) (history : List ℕ) : Type 0 where
+  pub eight : length (c .sessions .slots) ≡ 8
+  pub size : length (c .store) ≡ 1024
+  pub batch : fits (c .counters) (c .kinds) (c .verdicts) ≡ true
+  pub found : receivingSession (c .sessions) (c .index) (c .id) (c .now) ≡ Got session
+  pub stands : Stands history (c .sessions) (c .store) (slotIn (c .index))
+
+-- Such a call is not turned down, its verdicts are those that the history calls for, and then the slot stands for the history with the batch.
+pub record BatchLaw (c : Call) (history : List ℕ) : Type 0 where
+  pub number : outcome c .received .number ≡ 0
+  pub judges : outcome c .verdicts ≡ verdictsOn history (c .counters) (c .kinds)
+  pub stands : Stands (batchHistory history (c .counters) (c .kinds)) (outcome c .received .sessions) (outcome c .store) (slotIn (c .index))
 
 -- A session just inserted with next 0 stands for the empty history.
 pub record FreshLaw (s : Sessions) (store : List ℕ) (session : Session) : Type 0 where

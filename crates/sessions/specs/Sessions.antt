@@ -33,6 +33,11 @@ module _ {A : Type 0} where
   caseSelected Unset x f = x
   caseSelected (Index index) x f = f index
 
+  -- one value for each number that turns a missing report down, one for each count
+  unfoldable pub caseMissing : Missing → (ℕ → A) → (ℕ → A) → A
+  caseMissing (Refused number) f g = f number
+  caseMissing (Count count) f g = g count
+
 -- sessions of four fields
 abbrev pub ring : List Session → Selected → (last inserted : ℕ) → Sessions
 ring slots current last inserted = record { slots = slots; current = current; «last_index» = last; inserted = inserted }

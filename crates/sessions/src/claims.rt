@@ -7,7 +7,7 @@ ghost use Rattle.window.specs.History.{Represents};
 ghost use Rattle.sessions.specs.declared.session.Session.{Session};
 ghost use Rattle.sessions.specs.declared.sessions.Sessions.{Sessions};
 ghost use Rattle.sessions.specs.Laws.{SlotsApart, NextIndexLaw, ReservationLaw};
-ghost use Rattle.sessions.specs.History.{VerdictLaw, Live, BatchLaw, FreshLaw, MissingLaw};
+ghost use Rattle.sessions.specs.History.{VerdictLaw, Call, Live, BatchLaw, FreshLaw, MissingLaw};
 
 // A batch, an insertion and an expiry leave every slot that they do not name as it was.
 pub fn slots_apart()
@@ -31,7 +31,7 @@ pub fn verdict_law()
 
 // A batch gives each message the verdict that the session's history calls for, the batch's earlier messages included.
 pub fn batch_law()
-    ensures { λ r. ⌜ ((s : Sessions) (store : List ℕ) (index id now : ℕ) (counters kinds verdicts history : List ℕ) (session : Session) → Live s store index id now counters kinds verdicts history session → BatchLaw s store index id now counters kinds verdicts history session) ⌝ }
+    ensures { λ r. ⌜ ((call : Call) (session : Session) (history : List ℕ) → Live call session history → BatchLaw call history) ⌝ }
 {}
 
 // A session just inserted stands for the empty history.

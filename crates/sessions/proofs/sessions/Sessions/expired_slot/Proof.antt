@@ -1,5 +1,4 @@
 use Rattle.sessions.specs.Session.{emptySession, newSession}
-use Rattle.sessions.proofs.Cases.{cases}
 use Rattle.base.proofs.Choice.{picks}
 use Rattle.sessions.specs.Sessions.{expiredSlot}
 use borrow.Author.Needs.{needs}
@@ -17,11 +16,11 @@ expired-at-requires c κs = search needs
 
 returns : tie.Need-returns
 unfolding expiredSlot emptySession newSession
-returns c = search (picks, cases, needs)
+returns c = search (picks, needs)
 
 returns-2 : tie.Need-returns-2
 unfolding expiredSlot emptySession newSession
-returns-2 c = search (picks, cases, needs)
+returns-2 c = search (picks, needs)
 
 pub expired-slot-spec : {M : Type 1} → statement M
 expired-slot-spec =

@@ -1,6 +1,5 @@
 use Rattle.sessions.proofs.Loops.{slot-within}
 use Rattle.sessions.specs.Session.{emptySession, newSession}
-use Rattle.sessions.proofs.Cases.{cases}
 use Rattle.base.proofs.Choice.{picks}
 use Rattle.sessions.specs.Sessions.{slotExpiry}
 use borrow.Author.Needs.{needs}
@@ -19,11 +18,11 @@ expires-at-requires c κs = search (slot-within, needs)
 
 returns : tie.Need-returns
 unfolding slotExpiry emptySession newSession
-returns c = search (picks, cases, needs)
+returns c = search (picks, needs)
 
 returns-2 : tie.Need-returns-2
 unfolding slotExpiry emptySession newSession
-returns-2 c = search (picks, cases, needs)
+returns-2 c = search (picks, needs)
 
 pub slot-expiry-spec : {M : Type 1} → statement M
 slot-expiry-spec =
