@@ -22,7 +22,7 @@ use Rattle.sessions.specs.Store.{slotOf, putSlot, zeros, onesOf, missing
 use Rattle.sessions.specs.Session.{emptySession, withId}
 use Rattle.sessions.specs.Sessions.{caseFound, slotAt, put, inserting, insert}
 use Rattle.sessions.specs.Batch.{accepting, finish, finishWords, Batch, finishAll, started, batchOf, withProgress, answered, committedTo, commit, receive}
-use Rattle.sessions.specs.History.{verdictOn, historyAfter, verdictsOn, batchHistory, Stands, VerdictLaw, Call, outcome, Live, BatchLaw, FreshLaw, MissingLaw}
+use Rattle.sessions.specs.History.{verdictOn, recorded, recordedAll, verdictsOn, Stands, VerdictLaw, Call, outcome, Live, BatchLaw, FreshLaw, MissingLaw}
 use Rattle.sessions.proofs.Apart.{slot-same}
 use Rattle.sessions.proofs.Received.{InSlot, receiving-slot, progress-next, committed-slots}
 
@@ -39,21 +39,33 @@ module _ (history words : List ℕ) (p : Progress) (r : Represents history words
   unfolding committing choose
   next-stays e = after-is .expects ∙ ap expected (let stays : committing history c ≡ history = rw e in stays) ∙ sym (r .expects)
 
-  -- both tests known
-  record Message : Type 0 where
-    verdict : finish words p c k .verdict ≡ verdictOn history c k
-    stands : Represents (historyAfter history c k) (finishWords words p c k) (finish words p c k .progress .next)
+  -- what is recorded of a message is what the window commits of it
+  recorded-failed : eqb k 2 ≡ true → recorded history c (verdictOn history c k) ≡ history
+  unfolding recorded verdictOn choose
+  recorded-failed e = rw e
 
-  message-by : (b d : Bool) → eqb k 2 ≡ b → eqb (judged history c) 0 ≡ d → Message
-  unfolding finish finishWords accepting verdictOn historyAfter choose
-  message-by true d e f = record { verdict = rw e; stands = rw e r }
-  message-by false true e f =
-      record { verdict = rw (e, rule, f) (sym (eqb-true (judged history c) 0 f)); stands = rw (e, rule, f) after-is }
-  message-by false false e f =
-      record { verdict = rw (e, rule, f); stands = rw (e, rule, f) (rw (next-stays f) at after-is) }
+  recorded-opened : eqb k 2 ≡ false → recorded history c (verdictOn history c k) ≡ committing history c
+  unfolding recorded verdictOn committing choose
+  recorded-opened e = rw e
 
-  message : Message
-  message = message-by (eqb k 2) (eqb (judged history c) 0) refl refl
+  verdict-by : (b d : Bool) → eqb k 2 ≡ b → eqb (judged history c) 0 ≡ d → finish words p c k .verdict ≡ verdictOn history c k
+  unfolding finish verdictOn choose
+  verdict-by true d e f = rw e
+  verdict-by false true e f = rw (e, rule, f) (sym (eqb-true (judged history c) 0 f))
+  verdict-by false false e f = rw (e, rule, f)
+
+  stands-by : (b d : Bool) → eqb k 2 ≡ b → eqb (judged history c) 0 ≡ d
+      → Represents (recorded history c (verdictOn history c k)) (finishWords words p c k) (finish words p c k .progress .next)
+  unfolding finish finishWords accepting choose
+  stands-by true d e f = rw (recorded-failed e, e) r
+  stands-by false true e f = rw (recorded-opened e, e, rule, f) after-is
+  stands-by false false e f = rw (recorded-opened e, e, rule, f) (rw (next-stays f) at after-is)
+
+  message-verdict : finish words p c k .verdict ≡ verdictOn history c k
+  message-verdict = verdict-by (eqb k 2) (eqb (judged history c) 0) refl refl
+
+  message-stands : Represents (recorded history c (verdictOn history c k)) (finishWords words p c k) (finish words p c k .progress .next)
+  message-stands = stands-by (eqb k 2) (eqb (judged history c) 0) refl refl
 
 -- the messages of a batch, in order
 judges-all : (history words : List ℕ) (p : Progress) → Represents history words (p .next) → (counters kinds : List ℕ)
@@ -62,18 +74,17 @@ unfolding finishAll verdictsOn
 judges-all history words p r [] kinds = refl
 judges-all history words p r (c ∷ counters) [] = refl
 judges-all history words p r (c ∷ counters) (k ∷ kinds) =
-    let m : Message history words p r c k = message history words p r c k in
-    rw (m .verdict)
+    rw (message-verdict history words p r c k)
     (ap (λ (l : List ℕ). verdictOn history c k ∷ l)
-    (judges-all (historyAfter history c k) (finishWords words p c k) (finish words p c k .progress) (m .stands) counters kinds))
+    (judges-all (recorded history c (verdictOn history c k)) (finishWords words p c k) (finish words p c k .progress) (message-stands history words p r c k) counters kinds))
 
 stands-all : (history words : List ℕ) (p : Progress) → Represents history words (p .next) → (counters kinds : List ℕ)
-    → Represents (batchHistory history counters kinds) (finishAll words p counters kinds .words) (finishAll words p counters kinds .progress .next)
-unfolding finishAll batchHistory
+    → Represents (recordedAll history counters (verdictsOn history counters kinds)) (finishAll words p counters kinds .words) (finishAll words p counters kinds .progress .next)
+unfolding finishAll recordedAll verdictsOn
 stands-all history words p r [] kinds = r
 stands-all history words p r (c ∷ counters) [] = r
 stands-all history words p r (c ∷ counters) (k ∷ kinds) =
-    stands-all (historyAfter history c k) (finishWords words p c k) (finish words p c k .progress) (message history words p r c k .stands) counters kinds
+    stands-all (recorded history c (verdictOn history c k)) (finishWords words p c k) (finish words p c k .progress) (message-stands history words p r c k) counters kinds
 
 -- a slot whose record and words were put anew stands for what they represent
 put-stands : (history : List ℕ) (s last : Sessions) (store words : List ℕ) (k : ℕ) (x : Session)
@@ -104,28 +115,31 @@ module _ (c : Call) (x : Session) (history : List ℕ) (live : Live c x history)
   unfolding answered
   number-is = rw goes
 
-  ended : Represents (batchHistory history (c .counters) (c .kinds)) (mine .words) (withProgress x (mine .progress) .next)
-  ended = rw progress-next (stands-all history (slotOf (c .store) (slotIn (x .«receiving_index»))) (started x) begun (c .counters) (c .kinds))
+  given : mine .verdicts ≡ verdictsOn history (c .counters) (c .kinds)
+  given = judges-all history (slotOf (c .store) (slotIn (x .«receiving_index»))) (started x) begun (c .counters) (c .kinds)
+
+  ended : Represents (recordedAll history (c .counters) (mine .verdicts)) (mine .words) (withProgress x (mine .progress) .next)
+  ended = rw (given, progress-next) (stands-all history (slotOf (c .store) (slotIn (x .«receiving_index»))) (started x) begun (c .counters) (c .kinds))
 
   pub batch-law : BatchLaw c history
   batch-law =
       record {
         number = number-is;
-        judges = rw goes (judges-all history (slotOf (c .store) (slotIn (x .«receiving_index»))) (started x) begun (c .counters) (c .kinds));
+        judges = rw goes given;
         stands = rw (goes, ← its .named)
-            (put-stands (batchHistory history (c .counters) (c .kinds)) (c .sessions) (committedTo (c .sessions) (c .store) x mine .received .sessions)
+            (put-stands (recordedAll history (c .counters) (mine .verdicts)) (c .sessions) (committedTo (c .sessions) (c .store) x mine .received .sessions)
             (c .store) (mine .words) (x .«receiving_index» % 8) (withProgress x (mine .progress)) (live .eight) (live .size) (omega arith)
             (committed-slots (c .sessions) (c .store) x mine) ended);
       }
 
 -- a verdict of 0 exactly where document 01 says
 pub verdict-law : (history : List ℕ) (c k : ℕ) → VerdictLaw history c k
-unfolding verdictOn historyAfter choose
+unfolding verdictOn choose
 verdict-law history c k =
     record {
       commits = λ opened l near unseen. rw (ne-eqb k 2 opened) (judged-zero history c l near unseen);
       only = λ z. only-by (eqb k 2) refl z;
-      failed = λ e. (rw (eq-eqb k 2 e), rw (eq-eqb k 2 e));
+      failed = λ e. rw (eq-eqb k 2 e);
     }
   where
     only-by : (b : Bool) → eqb k 2 ≡ b → verdictOn history c k ≡ 0

@@ -1,4 +1,4 @@
--- A batch said of counters: which verdicts the history of a session calls for, and what the history is afterwards.
+-- A batch said of counters: which verdicts the history of a session calls for. A history is the list of counters given verdict 0, the last first.
 use mathlib.Core.Path.{_≡_}
 use mathlib.Core.Bool.{true, false}
 use mathlib.Core.List.{List, [], _∷_}
@@ -7,7 +7,7 @@ use lib.Dec.{eqb}
 use lib.ListN.{length}
 use Rattle.base.specs.Choice.{choose}
 use Rattle.window.specs.Window.{limit}
-use Rattle.window.specs.History.{member, expected, judged, committing, amongLast, Represents}
+use Rattle.window.specs.History.{member, expected, judged, amongLast, Represents}
 use Rattle.sessions.specs.declared.session.Session.{Session}
 use Rattle.sessions.specs.declared.sessions.Found.the-variants.{Got}
 use Rattle.sessions.specs.declared.sessions.Sessions.{Sessions}
@@ -20,22 +20,22 @@ use Rattle.sessions.specs.Batch.{fits, receivingSession, Outcome, receiv
 unfoldable pub verdictOn : List ℕ → (counter kind : ℕ) → ℕ
 verdictOn history counter kind = choose (eqb kind 2) 7 (judged history counter)
 
--- the history after a message: with its counter, if it opened and is given verdict 0
-unfoldable pub historyAfter : List ℕ → (counter kind : ℕ) → List ℕ
-historyAfter history counter kind = choose (eqb kind 2) history (committing history counter)
+-- the history with a counter, if it was given verdict 0
+unfoldable pub recorded : List ℕ → (counter verdict : ℕ) → List ℕ
+recorded history counter verdict = choose (eqb verdict 0) (counter ∷ history) history
+
+-- the history with the counters of a batch that were given verdict 0
+unfoldable pub recordedAll : List ℕ → (counters verdicts : List ℕ) → List ℕ
+recordedAll history [] verdicts = history
+recordedAll history (counter ∷ counters) [] = history
+recordedAll history (counter ∷ counters) (verdict ∷ verdicts) = recordedAll (recorded history counter verdict) counters verdicts
 
 -- the verdicts that a history calls for on the messages of a batch, each with the history as those before it left it
 unfoldable pub verdictsOn : List ℕ → (counters kinds : List ℕ) → List ℕ
 verdictsOn history [] kinds = []
 verdictsOn history (counter ∷ counters) [] = []
 verdictsOn history (counter ∷ counters) (kind ∷ kinds) =
-    verdictOn history counter kind ∷ verdictsOn (historyAfter history counter kind) counters kinds
-
--- the history after a batch
-unfoldable pub batchHistory : List ℕ → (counters kinds : List ℕ) → List ℕ
-batchHistory history [] kinds = history
-batchHistory history (counter ∷ counters) [] = history
-batchHistory history (counter ∷ counters) (kind ∷ kinds) = batchHistory (historyAfter history counter kind) counters kinds
+    verdictOn history counter kind ∷ verdictsOn (recorded history counter (verdictOn history counter kind)) counters kinds
 
 -- a session's slot stands for a history: its words, and its record's next expected counter
 abbrev pub Stands : List ℕ → Sessions → List ℕ → ℕ → Type 0
@@ -46,7 +46,7 @@ pub record VerdictLaw (history : List ℕ) (counter kind : ℕ) : Type 0 where
   pub commits : (kind ≡ 2 → ⊥) → counter < limit → expected history ≤ counter + 8192 → member counter history ≡ false → verdictOn history counter kind ≡ 0
   pub only : verdictOn history counter kind ≡ 0
       → (kind ≡ 2 → ⊥) × (counter < limit) × (expected history ≤ counter + 8192) × (member counter history ≡ false)
-  pub failed : kind ≡ 2 → (verdictOn history counter kind ≡ 7) × (historyAfter history counter kind ≡ history)
+  pub failed : kind ≡ 2 → verdictOn history counter kind ≡ 7
 
 -- the arguments of a call for a batch
 pub record Call : Type 0 where
@@ -71,11 +71,11 @@ pub record Live (c : Call) (session : Session) (history : List ℕ) : Type 0 whe
   pub found : receivingSession (c .sessions) (c .index) (c .id) (c .now) ≡ Got session
   pub stands : Stands history (c .sessions) (c .store) (slotIn (c .index))
 
--- Such a call is not turned down, its verdicts are those that the history calls for, and then the slot stands for the history with the batch.
+-- Such a call is not turned down, its verdicts are those that the history calls for, and then the slot stands for the history with the counters given verdict 0.
 pub record BatchLaw (c : Call) (history : List ℕ) : Type 0 where
   pub number : outcome c .received .number ≡ 0
   pub judges : outcome c .verdicts ≡ verdictsOn history (c .counters) (c .kinds)
-  pub stands : Stands (batchHistory history (c .counters) (c .kinds)) (outcome c .received .sessions) (outcome c .store) (slotIn (c .index))
+  pub stands : Stands (recordedAll history (c .counters) (outcome c .verdicts)) (outcome c .received .sessions) (outcome c .store) (slotIn (c .index))
 
 -- A session just inserted with next 0 stands for the empty history.
 pub record FreshLaw (s : Sessions) (store : List ℕ) (session : Session) : Type 0 where
