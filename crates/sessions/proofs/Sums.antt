@@ -73,7 +73,7 @@ module _ (s : Session) (len : ℕ) where
     unfolding reserveCounters
     too-few h = no-le (s .«sending_key_counter» + len) limit TooFew (grant s len) TooFew (omega arith) refl
 
-    pub granted : s .«sending_key_counter» ≤ limit - len
+    pub first-granted : s .«sending_key_counter» ≤ limit - len
         → First (s .«sending_key_counter») (withCounter s (s .«sending_key_counter» + len)) ≡ reserveCounters s len
     unfolding reserveCounters
-    granted h = yes-le (s .«sending_key_counter» + len) limit (grant s len) (grant s len) TooFew (omega arith) refl
+    first-granted h = yes-le (s .«sending_key_counter» + len) limit (grant s len) (grant s len) TooFew (omega arith) refl

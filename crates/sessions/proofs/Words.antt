@@ -1,4 +1,4 @@
--- The lent store by slots: what a part of it is, what a part put back leaves, and which slots that touches.
+-- The lent store by slots: what a part of it is, what a part put back leaves, and words that are zeroed.
 -- Assumes nothing.
 use mathlib.Core.Path.{_≡_, ap, _∙_}
 use mathlib.Core.List.{List, _++_}

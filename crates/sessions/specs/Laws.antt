@@ -19,7 +19,7 @@ pub record Kept (s last : Sessions) (store left : List ℕ) (slot : ℕ) : Type 
   pub session : slotAt last slot ≡ slotAt s slot
   pub words : slotOf left slot ≡ slotOf store slot
 
--- A store of 1,024 words: a batch, an insertion and an expiry leave every slot that they do not name as it was.
+-- A batch, an insertion and an expiry leave every slot that they do not name as it was: its record and its words.
 pub record SlotsApart (s : Sessions) (store : List ℕ) (slot : ℕ) : Type 0 where
   -- a batch for an index of another slot
   pub batch : (index id now : ℕ) (counters kinds verdicts : List ℕ) → (slot ≡ slotIn index → ⊥)

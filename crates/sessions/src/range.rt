@@ -3,6 +3,7 @@ use crate::session::REJECT_AFTER_MESSAGES;
 ghost use mathlib.Core.Path.{_≡_};
 ghost use Rattle.sessions.specs.Range.{endsAboveLimit, splitOff};
 
+// Consecutive counters granted for messages to one peer.
 pub struct Range {
     // The peer's index.
     pub peer: u32,

@@ -25,6 +25,7 @@ pub enum Selected {
     Index(u32),
 }
 
+// The slots, the selected index and the two counts that give a new session its local index and its id.
 pub struct Sessions {
     pub slots: [Session; 8],
     pub current: Selected,

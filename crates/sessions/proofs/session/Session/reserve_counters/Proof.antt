@@ -1,4 +1,4 @@
-use Rattle.sessions.proofs.Sums.{granted, too-few, too-long}
+use Rattle.sessions.proofs.Sums.{first-granted, too-few, too-long}
 use borrow.Author.Needs.{needs}
 use Rattle.sessions.proofs.session.Session.reserve_counters.Statement.{statement}
 use Rattle.sessions.proofs.session.Session.reserve_counters.Tie as tie
@@ -13,7 +13,7 @@ add-end : tie.Need-add-end
 add-end c = search needs
 
 returns-3 : tie.Need-returns-3
-returns-3 c = search (granted, needs)
+returns-3 c = search (first-granted, needs)
 
 pub reserve-counters-spec : {M : Type 1} → statement M
 reserve-counters-spec = tie.close (tie.spec returns returns-2 add-end returns-3)
