@@ -2,6 +2,7 @@ pub mod Apart
 pub mod Batches
 pub mod Cases
 pub mod Indices
+pub mod Instance
 pub mod Judged
 pub mod Loops
 pub mod Received

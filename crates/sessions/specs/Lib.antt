@@ -1,4 +1,5 @@
 pub mod Batch
+pub mod Example
 pub mod History
 pub mod Index
 pub mod Laws

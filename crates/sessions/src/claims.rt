@@ -6,6 +6,7 @@ ghost use lib.ListN.{length};
 ghost use Rattle.window.specs.History.{Represents};
 ghost use Rattle.sessions.specs.declared.session.Session.{Session};
 ghost use Rattle.sessions.specs.declared.sessions.Sessions.{Sessions};
+ghost use Rattle.sessions.specs.Example.{ExampleLaw};
 ghost use Rattle.sessions.specs.Laws.{SlotsApart, NextIndexLaw, ReservationLaw};
 ghost use Rattle.sessions.specs.History.{VerdictLaw, Call, Live, BatchLaw, FreshLaw, MissingLaw};
 
@@ -32,6 +33,11 @@ pub fn verdict_law()
 // A batch gives each message the verdict that the session's history calls for, the batch's earlier messages included.
 pub fn batch_law()
     ensures { λ r. ⌜ ((call : Call) (session : Session) (history : List ℕ) → Live call session history → BatchLaw call history) ⌝ }
+{}
+
+// There is a call of which the batch's law speaks: counters 0, 5 and 0 again to a session just inserted give 0, 0 and 10.
+pub fn example_law()
+    ensures { λ r. ⌜ ExampleLaw ⌝ }
 {}
 
 // A session just inserted stands for the empty history.
