@@ -1,9 +1,13 @@
 -- The marked cases of document 01, in one table: what is set up, what is called, what must come out.
-use mathlib.Core.Bool.{Bool, true, false}
+use mathlib.Core.Bool.{Bool, true, false, not}
 use mathlib.Core.List.{List, [], _∷_}
 use Prim.Native.Nat.{ℕ, _-_}
 use lib.Dec.{eqb}
 use Rattle.base.specs.Choice.{choose}
+use Rattle.sessions.specs.Session.{caseReserved, newSession, withCounter, reserveCounters}
+use Rattle.sessions.specs.Sessions.{caseFound, newSessions, nextIndex, inserting, select, sendingSession}
+use Rattle.sessions.specs.declared.session.Role.{Role}
+use Rattle.sessions.specs.declared.session.Role.the-variants.{Initiator, Responder}
 use Rattle.window.specs.Window.{limit, empty, setBit}
 use Rattle.window.specs.History.{Window, verdict, given}
 
@@ -37,17 +41,37 @@ unfoldable pub verdicts : Window → List ℕ → List ℕ
 verdicts window [] = []
 verdicts window (counter ∷ counters) = verdict window counter ∷ verdicts (given window counter) counters
 
+-- what a session whose send counter stands here answers to a reservation: the first counter and where it stands then, or nothing
+unfoldable pub reserving : (counter count : ℕ) → List ℕ
+reserving counter count =
+    caseReserved (reserveCounters (withCounter (newSession 257 9 Initiator 0) counter) count) []
+    (λ first session. first ∷ session .«sending_key_counter» ∷ [])
+
+-- whether a session of this role, established at time 0 and current, is used for sending at this time
+unfoldable pub sends : Role → ℕ → Bool
+sends role now =
+    caseFound (sendingSession (select (inserting (newSessions 256) (newSession 257 9 role 0)) 257) now) false (λ session. true)
+
 -- a marked case
 pub data Case : Type 0 where
   -- a window that stands at `next` with just `committed` committed is given `counters`, answers `answers`, and then stands at `nextThen`
   -- with just `committedThen` committed
   onWindow : (next : ℕ) (committed counters answers : List ℕ) (nextThen : ℕ) (committedThen : List ℕ) → Case
+  -- a session whose send counter stands at `counter` is asked for `count` counters and answers `answer`
+  onCounters : (counter count : ℕ) (answer : List ℕ) → Case
+  -- with no session current, the index `last` is followed by `next`
+  onIndex : (last next : ℕ) → Case
+  -- a session of this role sends at this age, or not
+  onAge : (role : Role) (age : ℕ) (answer : Bool) → Case
 
 -- what a case says, as a test
 unfoldable pub holds : Case → Bool
 holds (onWindow next committed counters answers nextThen committedThen) =
     both (same (verdicts (standing next committed) counters) answers)
     (sameWindow (after (standing next committed) counters) (standing nextThen committedThen))
+holds (onCounters counter count answer) = same (reserving counter count) answer
+holds (onIndex last next) = eqb (nextIndex (newSessions last) .index) next
+holds (onAge role age answer) = choose answer (sends role age) (not (sends role age))
 
 -- every case of a table
 unfoldable pub holdAll : List Case → Bool
@@ -67,4 +91,14 @@ marked =
     ∷ onWindow 0 [] (limit ∷ (limit - 1) ∷ []) (9 ∷ 0 ∷ []) limit ((limit - 1) ∷ [])
     -- M5: next 6, 8,198 commits and clears all; then 6 gives 9 and 7 commits
     ∷ onWindow 6 (0 ∷ 1 ∷ 2 ∷ 3 ∷ 4 ∷ 5 ∷ []) (8198 ∷ 6 ∷ 7 ∷ []) (0 ∷ 9 ∷ 0 ∷ []) 8199 (8198 ∷ 7 ∷ [])
+    -- M6: send counter LIMIT - 1: one is granted, two are too many
+    ∷ onCounters (limit - 1) 1 ((limit - 1) ∷ limit ∷ [])
+    ∷ onCounters (limit - 1) 2 []
+    -- M7: no session current, index 511 is followed by 256
+    ∷ onIndex 511 256
+    -- M9: an initiator's session sends at age 170 s and not one nanosecond later; a responder's not at 180 s
+    ∷ onAge Initiator 170000000000 true
+    ∷ onAge Initiator 170000000001 false
+    ∷ onAge Responder 179999999999 true
+    ∷ onAge Responder 180000000000 false
     ∷ []
