@@ -1,0 +1,242 @@
+-- The frame of the calls: what a call hands back where a check turns it down and where it lets it through, and what is known then.
+-- Assumes nothing.
+use mathlib.Core.Path.{_≡_, refl, ap, sym, _∙_}
+use mathlib.Core.Bool.{Bool, true, false, true≢false}
+use mathlib.Core.List.{List}
+use Prim.Native.Nat.{ℕ, _≤_, _<_}
+use native.Mathlib.Omega.{arith}
+use lib.Dec.{ltb, eqb}
+use lib.ListN.{length}
+use borrow.Author.Tests.{ltb-false, eqb-true, eq-eqb, ne-eqb}
+use Rattle.base.specs.Choice.{choose}
+use Rattle.base.proofs.Choice.{yes-eq, no-eq, yes-call, no-call}
+use Rattle.sessions.specs.Session.{timeLimit}
+use Rattle.sessions.specs.Store.{Leaves, whole, zeros}
+use Rattle.tunnel.specs.Arguments.{intervalOf, openingOutcome, initiationOutcome, lacking, badOutcome, badJitter, creationNumber}
+use Rattle.tunnel.specs.Check.{undamaged}
+use Rattle.tunnel.specs.Control.{Turn, newControl, outcome}
+use Rattle.tunnel.specs.Deadlines.{pollTimeout}
+use Rattle.tunnel.specs.Facts.{ControlWithin, Undamaged}
+use Rattle.tunnel.specs.Messages.{handleHandshakeInitiation, handleHandshakeResponse, handleCookieReply}
+use Rattle.tunnel.specs.RingBuffer.{RingWithin}
+use Rattle.tunnel.specs.Timers.{maxJitter, greatestInterval}
+use Rattle.tunnel.specs.Transport.{Batched, Commits}
+use Rattle.tunnel.specs.Tunnel.{
+  answered,
+  made,
+  gate,
+  timelessGate,
+  refused,
+  settled,
+  timed,
+  timeless,
+  kept,
+  timedTurn,
+  timedBatch,
+  LeavesBatch,
+  callNew,
+  callInitiation,
+  callResponse,
+  callCookie,
+  callDeadline,
+}
+use Rattle.tunnel.proofs.Later.{let-through}
+use Rattle.tunnel.specs.declared.answer.Answer.the-variants.{Done, Deadline}
+use Rattle.tunnel.specs.declared.control.Control.{Control}
+use Rattle.tunnel.specs.declared.control.Out.{Out}
+use Rattle.tunnel.specs.declared.timers.Interval.{Interval}
+use Rattle.tunnel.specs.declared.tunnel.Answered.{Answered}
+use Rattle.tunnel.specs.declared.tunnel.Tunnel.{Tunnel}
+use Rattle.sessions.specs.declared.session.Time.{Time}
+
+-- four tests that end in 0
+record Open (late bad whole back : Bool) : Type 0 where
+  early : late ≡ false
+  good : bad ≡ false
+  sound : whole ≡ true
+  onward : back ≡ false
+
+open-of : (late bad whole back : Bool) → _≡_ {A = ℕ} (choose late 1 (choose bad 2 (choose whole (choose back 13 0) 14))) 0 → Open late bad whole back
+unfolding choose
+open-of true bad whole back e = absurd (omega arith)
+open-of false true whole back e = absurd (omega arith)
+open-of false false false back e = absurd (omega arith)
+open-of false false true true e = absurd (omega arith)
+open-of false false true false e = record { early = refl; good = refl; sound = refl; onward = refl }
+
+-- what is known once the checks of a call at a time let it through
+module _ (t : Tunnel) (bad : Bool) (now number : ℕ) (n : number ≡ gate t bad now) (z : number ≡ 0) where
+  opened : Open (ltb timeLimit now) bad (undamaged t) (ltb now (t .greatest))
+  unfolding gate
+  opened = open-of (ltb timeLimit now) bad (undamaged t) (ltb now (t .greatest)) (sym n ∙ z)
+
+  pub open-within : ControlWithin (t .control) timeLimit
+  open-within = let-through t (undamaged t) refl (opened .sound)
+
+  pub open-ring : RingWithin (t .control .events)
+  open-ring = open-within .events .ring
+
+  pub open-now : now ≤ timeLimit
+  open-now = ltb-false timeLimit now (opened .early)
+
+  pub open-good : bad ≡ false
+  open-good = opened .good
+
+-- the same of a call without a time
+module _ (t : Tunnel) (bad : Bool) (number : ℕ) (n : number ≡ timelessGate t bad) (z : number ≡ 0) where
+  timeless-sound : (b whole : Bool) → _≡_ {A = ℕ} (choose b 2 (choose whole 0 14)) 0 → whole ≡ true
+  unfolding choose
+  timeless-sound true whole e = absurd (omega arith)
+  timeless-sound false true e = refl
+  timeless-sound false false e = absurd (omega arith)
+
+  pub still-within : ControlWithin (t .control) timeLimit
+  unfolding timelessGate
+  still-within = let-through t (undamaged t) refl (timeless-sound bad (undamaged t) (sym n ∙ z))
+
+  pub still-ring : RingWithin (t .control .events)
+  still-ring = still-within .events .ring
+
+-- the frame of a call at a time
+module _ (t : Tunnel) (bad is : Bool) (now number : ℕ) (b : bad ≡ is) (n : number ≡ gate t bad now) where
+  same-gate : number ≡ gate t is now
+  same-gate = n ∙ ap (λ (x : Bool). gate t x now) b
+
+  pub way-refused : (out : Out) (a : Answered) → (number ≡ 0 → ⊥) → a ≡ refused t number → a ≡ timed t is now out
+  unfolding timed
+  way-refused out a z r = no-eq _ 0 a _ _ (λ e. z (same-gate ∙ e)) (r ∙ ap (refused t) same-gate)
+
+  pub way-settled : (out shall : Out) (a : Answered) → number ≡ 0 → out ≡ shall → a ≡ settled t now out → a ≡ timed t is now shall
+  unfolding timed
+  way-settled out shall a z o s = yes-eq _ 0 a _ _ (sym same-gate ∙ z) (s ∙ ap (settled t now) o)
+
+  kept-refused : (came left : List ℕ) → (number ≡ 0 → ⊥) → came ≡ kept t is now came left
+  unfolding kept
+  kept-refused came left z = no-eq _ 0 came _ _ (λ e. z (same-gate ∙ e)) refl
+
+  kept-settled : (came left shall : List ℕ) → number ≡ 0 → left ≡ shall → left ≡ kept t is now came shall
+  unfolding kept
+  kept-settled came left shall z e = yes-eq _ 0 left _ _ (sym same-gate ∙ z) e
+
+  pub way-turn-refused : (store : List ℕ) (turn : Turn) (a : Answered) → (number ≡ 0 → ⊥) → a ≡ refused t number
+      → Leaves a (timedTurn t is now store turn .answered) store (timedTurn t is now store turn .store)
+  unfolding timedTurn
+  way-turn-refused store turn a z r = record { out = way-refused (turn .out) a z r; words = kept-refused store (turn .store) z }
+
+  pub way-turn-settled : (store left : List ℕ) (turn : Turn) (out : Out) (a : Answered) → number ≡ 0 → Leaves out (turn .out) left (turn .store)
+      → a ≡ settled t now out → Leaves a (timedTurn t is now store turn .answered) left (timedTurn t is now store turn .store)
+  unfolding timedTurn
+  way-turn-settled store left turn out a z o s =
+      record { out = way-settled out (turn .out) a z (o .out) s; words = kept-settled store left (turn .store) z (o .words) }
+
+  pub way-batch-refused : (store verdicts : List ℕ) (batch : Batched) (a : Answered) → (number ≡ 0 → ⊥) → a ≡ refused t number
+      → LeavesBatch (timedBatch t is now store verdicts batch) a store verdicts
+  unfolding timedBatch
+  way-batch-refused store verdicts batch a z r =
+      record {
+        out = way-refused (batch .out) a z r;
+        words = kept-refused store (batch .store) z;
+        list = kept-refused verdicts (batch .verdicts) z;
+      }
+
+  pub way-batch-settled : (store verdicts left list : List ℕ) (batch : Batched) (out : Out) (a : Answered) → number ≡ 0 → Commits batch out left list
+      → a ≡ settled t now out → LeavesBatch (timedBatch t is now store verdicts batch) a left list
+  unfolding timedBatch
+  way-batch-settled store verdicts left list batch out a z o s =
+      record {
+        out = way-settled out (batch .out) a z (o .out) s;
+        words = kept-settled store left (batch .store) z (o .words);
+        list = kept-settled verdicts list (batch .verdicts) z (o .list);
+      }
+
+-- the frame of a call without a time
+module _ (t : Tunnel) (bad is : Bool) (number : ℕ) (b : bad ≡ is) (n : number ≡ timelessGate t bad) where
+  same-timeless : number ≡ timelessGate t is
+  same-timeless = n ∙ ap (timelessGate t) b
+
+  pub way-timeless-refused : (out : Out) (a : Answered) → (number ≡ 0 → ⊥) → a ≡ refused t number → a ≡ timeless t is out
+  unfolding timeless
+  way-timeless-refused out a z r = no-eq _ 0 a _ _ (λ e. z (same-timeless ∙ e)) (r ∙ ap (refused t) same-timeless)
+
+  pub way-timeless-settled : (out shall : Out) (a : Answered) → number ≡ 0 → out ≡ shall → a ≡ settled t 0 out → a ≡ timeless t is shall
+  unfolding timeless
+  way-timeless-settled out shall a z o s = yes-eq _ 0 a _ _ (sym same-timeless ∙ z) (s ∙ ap (settled t 0) o)
+
+-- the deadline
+pub way-deadline : (t : Tunnel) (number : ℕ) (time : Time) → number ≡ timelessGate t false → number ≡ 0
+    → time ≡ pollTimeout (t .control) (t .«last_update») → answered t (Deadline time) ≡ callDeadline t
+unfolding callDeadline settled choose
+way-deadline t number time n z e =
+    way-timeless-settled t false false number refl n (outcome (t .control) (Deadline time) false false) _ _ z (rw e) refl
+
+-- an outcome that the call has made of its argument
+module _ (t : Tunnel) (given now number : ℕ) where
+  module _ (store : List ℕ) (peer found : ℕ) (bad : Bool) (f : found ≡ initiationOutcome given) (b : bad ≡ badOutcome found store) (n : number ≡ gate t bad now) where
+    pub way-initiation-refused : (a : Answered) → (number ≡ 0 → ⊥) → a ≡ refused t number
+        → Leaves a (callInitiation t store peer given now .answered) store (callInitiation t store peer given now .store)
+    unfolding callInitiation
+    way-initiation-refused a z r = rw (← f) (way-turn-refused t bad (badOutcome found store) now number b n store _ a z r)
+
+    pub way-initiation-settled : (left : List ℕ) (out : Out) (a : Answered) → number ≡ 0
+        → Leaves out (handleHandshakeInitiation (t .control) store peer found now .out) left (handleHandshakeInitiation (t .control) store peer found now .store)
+        → a ≡ settled t now out → Leaves a (callInitiation t store peer given now .answered) left (callInitiation t store peer given now .store)
+    unfolding callInitiation
+    way-initiation-settled left out a z o s = rw (← f) (way-turn-settled t bad (badOutcome found store) now number b n store left _ out a z o s)
+
+  module _ (store : List ℕ) (receiver peer found : ℕ) (bad : Bool) (f : found ≡ openingOutcome given) (b : bad ≡ badOutcome found store) (n : number ≡ gate t bad now) where
+    pub way-response-refused : (a : Answered) → (number ≡ 0 → ⊥) → a ≡ refused t number
+        → Leaves a (callResponse t store receiver peer given now .answered) store (callResponse t store receiver peer given now .store)
+    unfolding callResponse
+    way-response-refused a z r = rw (← f) (way-turn-refused t bad (badOutcome found store) now number b n store _ a z r)
+
+    pub way-response-settled : (left : List ℕ) (out : Out) (a : Answered) → number ≡ 0
+        → Leaves out (handleHandshakeResponse (t .control) store receiver peer found now .out) left
+        (handleHandshakeResponse (t .control) store receiver peer found now .store)
+        → a ≡ settled t now out → Leaves a (callResponse t store receiver peer given now .answered) left (callResponse t store receiver peer given now .store)
+    unfolding callResponse
+    way-response-settled left out a z o s = rw (← f) (way-turn-settled t bad (badOutcome found store) now number b n store left _ out a z o s)
+
+  module _ (receiver found : ℕ) (f : found ≡ openingOutcome given) (n : number ≡ gate t (eqb found 2) now) where
+    pub way-cookie-refused : (a : Answered) → (number ≡ 0 → ⊥) → a ≡ refused t number → a ≡ callCookie t receiver given now
+    unfolding callCookie
+    way-cookie-refused a z r = rw (← f) (way-refused t (eqb found 2) (eqb found 2) now number refl n _ a z r)
+
+    pub way-cookie-settled : (out : Out) (a : Answered) → number ≡ 0 → out ≡ handleCookieReply (t .control) receiver found now
+        → a ≡ settled t now out → a ≡ callCookie t receiver given now
+    unfolding callCookie
+    way-cookie-settled out a z o s = rw (← f) (way-settled t (eqb found 2) (eqb found 2) now number refl n out _ a z o s)
+
+-- a jitter that the checks let through
+small-jitter : (jitter : ℕ) (store : List ℕ) (late : Bool) → ltb maxJitter jitter ≡ late → badJitter jitter store ≡ false → jitter ≤ maxJitter
+unfolding badJitter choose
+small-jitter jitter store false e g = ltb-false maxJitter jitter e
+small-jitter jitter store true e g = absurd (true≢false (rw e at g))
+
+pub open-jitter : (t : Tunnel) (jitter now number : ℕ) (store : List ℕ) (bad : Bool) → bad ≡ badJitter jitter store → number ≡ gate t bad now
+    → number ≡ 0 → jitter ≤ maxJitter
+open-jitter t jitter now number store bad b n z = small-jitter jitter store (ltb maxJitter jitter) refl (sym b ∙ open-good t bad now number n z)
+
+-- a creation's store that the checks let through
+fold : (late big full : Bool) → _≡_ {A = ℕ} (choose late 1 (choose big 2 (choose (choose full false true) 2 0))) 0 → full ≡ true
+unfolding choose
+fold true big full e = absurd (omega arith)
+fold false true full e = absurd (omega arith)
+fold false false true e = refl
+fold false false false e = absurd (omega arith)
+
+whole-store : (store : List ℕ) (keepalive now : ℕ) → creationNumber store keepalive now ≡ 0 → length store ≡ 1024
+unfolding creationNumber lacking
+whole-store store keepalive now z =
+    eqb-true (length store) 1024 (fold (ltb timeLimit now) (ltb greatestInterval keepalive) (whole store) z)
+
+-- creation
+module _ (store : List ℕ) (index keepalive now number : ℕ) (n : number ≡ creationNumber store keepalive now) where
+  pub way-new-refused : (none : Tunnel) (a : Answered) → (number ≡ 0 → ⊥) → none ≡ made 0 0 0 → a ≡ refused none number
+      → Leaves a (callNew store index keepalive now .answered) store (callNew store index keepalive now .store)
+  unfolding callNew choose
+  way-new-refused none a z e r = rw (← n, ne-eqb number 0 z) (record { out = r ∙ rw e; words = refl })
+
+  pub way-new : (fresh : Tunnel) (left : List ℕ) → number ≡ 0 → left ≡ zeros (length store) → fresh ≡ made index keepalive now
+      → Leaves (answered fresh Done) (callNew store index keepalive now .answered) left (callNew store index keepalive now .store)
+  unfolding callNew choose
+  way-new fresh left z l e = rw (← n, eq-eqb number 0 z) (record { out = rw e; words = l ∙ ap zeros (whole-store store keepalive now (sym n ∙ z)) })

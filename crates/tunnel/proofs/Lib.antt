@@ -1,0 +1,13 @@
+pub mod Cases
+pub mod Due
+pub mod Facts
+pub mod Framed
+pub mod Kept
+pub mod Later
+pub mod Loops
+pub mod MessagesWays
+pub mod Queue
+pub mod Steps
+pub mod TransportWays
+pub mod Ways
+pub mod Woken

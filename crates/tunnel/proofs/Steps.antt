@@ -1,0 +1,201 @@
+-- Every step of the waking keeps the facts of number 14, and the ring of events in range.
+-- Assumes nothing.
+use mathlib.Core.Path.{_≡_, refl}
+use mathlib.Core.Bool.{Bool, true, false}
+use mathlib.Core.List.{List, [], _∷_}
+use Prim.Native.Nat.{ℕ, zero, suc, _≤_, _<_}
+use native.Mathlib.Omega.{arith}
+use lib.ListN.{length, getD, set, getD-replicate}
+use Rattle.base.specs.Choice.{choose}
+use Rattle.sessions.specs.Session.{caseReserved, emptySession}
+use Rattle.sessions.specs.Sessions.{caseFound, withSlots, withCurrent, Held, emptySlots, clear, slotAt, emptied, Expiring, discard, expireSlot, expireFirst, expire}
+use Rattle.sessions.specs.Store.{Leaves}
+use Rattle.sessions.specs.declared.session.Reserved.{Reserved}
+use Rattle.sessions.specs.declared.session.Reserved.the-variants.{TooFew, First}
+use Rattle.sessions.specs.declared.session.Session.{Session}
+use Rattle.sessions.specs.declared.sessions.Expired.{Expired}
+use Rattle.sessions.specs.declared.sessions.Found.{Found}
+use Rattle.sessions.specs.declared.sessions.Found.the-variants.{Nothing, Got}
+use Rattle.sessions.specs.declared.sessions.Selected.{Selected}
+use Rattle.sessions.specs.declared.sessions.Selected.the-variants.{Unset}
+use Rattle.sessions.specs.declared.sessions.Sessions.{Sessions}
+use Rattle.tunnel.specs.Control.{withHandshake, withSessions, withTimers, queueing}
+use Rattle.tunnel.specs.Facts.{SlotWithin, SessionsWithin, EventWithin, ControlWithin}
+use Rattle.tunnel.specs.Handshake.{HandshakeWithin, setExpired}
+use Rattle.tunnel.specs.Messages.{initiate, initiating}
+use Rattle.tunnel.specs.RingBuffer.{RingWithin}
+use Rattle.tunnel.specs.Timers.{TimersWithin, maxJitter, tickPersistentKeepalive, cancelScheduledHandshake, consumePassiveKeepalive}
+use Rattle.tunnel.specs.Transport.{encryptKeepalive}
+use Rattle.tunnel.specs.Waking.{clearAll, expireControl, scheduling, expireCookie}
+use Rattle.tunnel.specs.declared.control.Control.{Control}
+use Rattle.tunnel.specs.declared.event.Event.{Event}
+use Rattle.tunnel.specs.declared.event.Event.the-variants.{ConnectionExpired}
+use Rattle.tunnel.specs.declared.handshake.Handshake.{Handshake}
+use Rattle.tunnel.specs.declared.messages.Initiated.{Initiated}
+use Rattle.tunnel.specs.declared.timers.Timers.{Timers}
+use Rattle.tunnel.specs.declared.transport.Encrypted.{Encrypted}
+use Rattle.tunnel.proofs.Kept.{on-clear, on-push, on-expired, on-kept, on-schedule, on-cancel, on-consume, on-clear-cookie}
+
+-- what holds of every side of a choice holds of the choice
+module _ {A : Type 0} (P : A → Type 0) where
+  pub of-choice : (f : Bool) (x y : A) → P x → P y → P (choose f x y)
+  unfolding choose
+  of-choice true x y p q = p
+  of-choice false x y p q = q
+
+  pub of-found : (found : Found) (x : A) (f : Session → A) → P x → ((s : Session) → P (f s)) → P (caseFound found x f)
+  unfolding caseFound
+  of-found Nothing x f p q = p
+  of-found (Got s) x f p q = q s
+
+  pub of-reserved : (reserved : Reserved) (x : A) (f : ℕ → Session → A) → P x → ((n : ℕ) (s : Session) → P (f n s)) → P (caseReserved reserved x f)
+  unfolding caseReserved
+  of-reserved TooFew x f p q = p
+  of-reserved (First n s) x f p q = q n s
+
+-- a slot that is filled after another one was emptied is what it was
+still-filled : (l : List Session) (i k : ℕ) → getD (set l i emptySession) k emptySession .filled ≡ true
+    → getD (set l i emptySession) k emptySession ≡ getD l k emptySession
+unfolding emptySession
+still-filled [] i k p = refl
+still-filled (x ∷ l) zero zero p = let z : _≡_ {A = ℕ} 0 1 = cc in absurd (omega arith)
+still-filled (x ∷ l) zero (suc k) p = refl
+still-filled (x ∷ l) (suc i) zero p = refl
+still-filled (x ∷ l) (suc i) (suc k) p = still-filled l i k p
+
+module _ (most : ℕ) where
+  same-slot : (s : Sessions) (x : Session) (k : ℕ) → SessionsWithin s most → k < 8 → x ≡ slotAt s k → x .filled ≡ true → SlotWithin x k most
+  same-slot s x k w h e f = let g : slotAt s k .filled ≡ true = cc in rw e (w .slots k h g)
+
+  on-emptied : (s : Sessions) (slot : ℕ) → SessionsWithin s most → SessionsWithin (emptied s slot) most
+  unfolding emptied
+  on-emptied s slot w = record { slots = λ k h f. same-slot s _ k w h (still-filled (s .slots) slot k f) f }
+
+  on-selected : (s : Sessions) (x : Selected) → SessionsWithin s most → SessionsWithin (withCurrent s x) most
+  on-selected s x w = record { slots = w .slots }
+
+  on-discard : (e : Expired) (slot : ℕ) → SessionsWithin (e .sessions) most → SessionsWithin (discard e slot .sessions) most
+  unfolding discard
+  on-discard e slot w =
+      of-choice (λ (x : Expired). SessionsWithin (x .sessions) most) _ _ _ (on-selected (emptied (e .sessions) slot) _ (on-emptied (e .sessions) slot w))
+      (on-emptied (e .sessions) slot w)
+
+  on-expire-slot : (e : Expiring) (slot now : ℕ) → SessionsWithin (e .expired .sessions) most
+      → SessionsWithin (expireSlot e slot now .expired .sessions) most
+  unfolding expireSlot
+  on-expire-slot e slot now w = of-choice (λ (x : Expiring). SessionsWithin (x .expired .sessions) most) _ _ _ (on-discard (e .expired) slot w) w
+
+  on-expire-first : (e : Expiring) (count now : ℕ) → SessionsWithin (e .expired .sessions) most
+      → SessionsWithin (expireFirst e count now .expired .sessions) most
+  unfolding expireFirst
+  on-expire-first e zero now w = w
+  on-expire-first e (suc count) now w = on-expire-slot (expireFirst e count now) count now (on-expire-first e count now w)
+
+  pub on-expire : (s : Sessions) (store : List ℕ) (now : ℕ) → SessionsWithin s most → SessionsWithin (expire s store now .expired .sessions) most
+  unfolding expire
+  on-expire s store now w = of-choice (λ (x : Expiring). SessionsWithin (x .expired .sessions) most) _ _ _ (on-expire-first _ 8 now w) w
+
+-- eight empty slots hold no session
+not-empty : (x : Session) → x ≡ emptySession → x .filled ≡ true → ⊥
+unfolding emptySession
+not-empty x e f = let z : _≡_ {A = ℕ} 0 1 = cc in omega arith
+
+module _ (most : ℕ) where
+  all-empty : (s : Sessions) → SessionsWithin (withSlots s emptySlots) most
+  unfolding emptySlots
+  all-empty s = record { slots = λ k h f. absurd (not-empty _ (getD-replicate 8 k emptySession emptySession h) f) }
+
+  pub on-clear-sessions : (s : Sessions) (store : List ℕ) → SessionsWithin s most → SessionsWithin (clear s store .sessions) most
+  unfolding clear
+  on-clear-sessions s store w =
+      of-choice (λ (x : Held). SessionsWithin (x .sessions) most) _ _ _ (on-selected most (withSlots s emptySlots) Unset (all-empty s)) w
+
+  -- the end of the connection as an event
+  pub on-ended : EventWithin ConnectionExpired most
+  on-ended =
+      record {
+        started = λ a b p. let z : _≡_ {A = ℕ} 0 1 = cc in absurd (omega arith);
+        confirmed = λ a b p. let z : _≡_ {A = ℕ} 0 1 = cc in absurd (omega arith);
+      }
+
+-- a control with one part given anew
+module _ (c : Control) (most : ℕ) (w : ControlWithin c most) where
+  pub with-timers : (t : Timers) → TimersWithin t most → ControlWithin (withTimers c t) most
+  with-timers t v = record { timers = v; handshake = w .handshake; first = w .first; sessions = w .sessions; events = w .events }
+
+  pub with-handshake : (h : Handshake) → HandshakeWithin h most → ControlWithin (withHandshake c h) most
+  with-handshake h v = record { timers = w .timers; handshake = v; first = w .first; sessions = w .sessions; events = w .events }
+
+  pub with-sessions : (s : Sessions) → SessionsWithin s most → ControlWithin (withSessions c s) most
+  with-sessions s v = record { timers = w .timers; handshake = w .handshake; first = w .first; sessions = v; events = w .events }
+
+  -- the steps of the waking, as the code has them in locals
+  pub consumed-within : (t : Timers) → t ≡ consumePassiveKeepalive (c .timers) → ControlWithin (withTimers c t) most
+  consumed-within t e = with-timers t (rw e (on-consume (c .timers) most (w .timers)))
+
+  pub cancelled-within : (t : Timers) → t ≡ cancelScheduledHandshake (c .timers) → ControlWithin (withTimers c t) most
+  cancelled-within t e = with-timers t (rw e (on-cancel (c .timers) most (w .timers)))
+
+  pub ticked-within : (t : Timers) (now : ℕ) → now ≤ most → t ≡ tickPersistentKeepalive (c .timers) now → ControlWithin (withTimers c t) most
+  ticked-within t now h e = with-timers t (rw e (on-kept (c .timers) most now (w .timers) h))
+
+  pub scheduled-within : (jitter now : ℕ) → now ≤ most → jitter ≤ maxJitter → ControlWithin (scheduling c jitter now) most
+  unfolding scheduling
+  scheduled-within jitter now h j = with-timers _ (on-schedule (c .timers) most now (w .timers) h jitter j)
+
+  pub cookie-within : (x : Control) (now : ℕ) → x ≡ expireCookie c now → ControlWithin x most
+  unfolding expireCookie
+  cookie-within x now e =
+      rw e (of-choice (λ (y : Control). ControlWithin y most) _ _ c (with-handshake _ (on-clear-cookie (c .handshake) most (w .handshake))) w)
+
+  pub expiry-within : (e : Expired) (store left : List ℕ) (now : ℕ)
+      → Leaves e (expire (c .sessions) store now .expired) left (expire (c .sessions) store now .store) → ControlWithin (withSessions c (e .sessions)) most
+  expiry-within e store left now l = with-sessions (e .sessions) (rw (l .out) (on-expire most (c .sessions) store now (w .sessions)))
+
+  pub cleared-within : (store : List ℕ) (now : ℕ) → now ≤ most → ControlWithin (clearAll c store now .control) most
+  unfolding clearAll
+  cleared-within store now h =
+      record {
+        timers = on-clear (c .timers) most now (w .timers) h;
+        handshake = w .handshake;
+        first = w .first;
+        sessions = on-clear-sessions most (c .sessions) store (w .sessions);
+        events = w .events;
+      }
+
+  pub queued-within : (event : Event) → length (c .events .slots) ≡ 16 → EventWithin event most → ControlWithin (queueing c event) most
+  unfolding queueing
+  queued-within event long v =
+      record {
+        timers = w .timers;
+        handshake = w .handshake;
+        first = w .first;
+        sessions = w .sessions;
+        events = on-push most (c .events) long (w .events) event v;
+      }
+
+-- the connection ended
+module _ (c : Control) (most : ℕ) (w : ControlWithin c most) where
+  pub ended-within : (store : List ℕ) (now : ℕ) → now ≤ most → length (c .events .slots) ≡ 16 → ControlWithin (expireControl c store now .control) most
+  unfolding expireControl clearAll
+  ended-within store now h long =
+      let v : ControlWithin (withHandshake c (setExpired (c .handshake))) most = with-handshake c most w _ (on-expired (c .handshake) most (w .handshake)) in
+      queued-within _ most (cleared-within (withHandshake c (setExpired (c .handshake))) most v store now h) ConnectionExpired long (on-ended most)
+
+-- what an encrypted keepalive's control queues
+abbrev RingOf : Encrypted → Type 0
+RingOf x = RingWithin (x .control .events)
+
+-- the ring of events stays in range where a control is cleared, a keepalive sent or an initiation sent
+module _ (c : Control) (now : ℕ) (r : RingWithin (c .events)) where
+  pub cleared-ring : (x : Control) (store left : List ℕ) → Leaves x (clearAll c store now .control) left (clearAll c store now .store) → RingWithin (x .events)
+  unfolding clearAll
+  cleared-ring x store left l = rw (l .out) r
+
+  pub keepalive-ring : (x : Encrypted) → x ≡ encryptKeepalive c now → RingWithin (x .control .events)
+  unfolding encryptKeepalive
+  keepalive-ring x e = rw e (of-found RingOf _ _ _ r (λ s. of-reserved RingOf _ _ _ r (λ n t. r)))
+
+  pub initiated-ring : (x : Initiated) → x ≡ initiate c now → RingWithin (x .control .events)
+  unfolding initiate initiating
+  initiated-ring x e = rw e r

@@ -1,0 +1,14 @@
+use Rattle.tunnel.specs.Control.{pollEvent}
+use borrow.Author.Needs.{needs}
+use Rattle.tunnel.proofs.control.Control.poll_event.Statement.{statement}
+use Rattle.tunnel.proofs.control.Control.poll_event.Tie as tie
+
+pop-front-requires : tie.Need-pop-front-requires
+pop-front-requires c κs = search needs
+
+returns : tie.Need-returns
+unfolding pollEvent
+returns c = cc
+
+pub poll-event-spec : {M : Type 1} → statement M
+poll-event-spec = tie.close (tie.spec pop-front-requires returns)

@@ -1,0 +1,19 @@
+use Rattle.tunnel.specs.Waking.{scheduling}
+use borrow.Author.Needs.{needs}
+use Rattle.tunnel.proofs.control.Control.schedule_handshake.Statement.{statement}
+use Rattle.tunnel.proofs.control.Control.schedule_handshake.Tie as tie
+
+add-schedule-handshake : tie.Need-add-schedule-handshake
+add-schedule-handshake c = search needs
+
+schedule-handshake-requires : tie.Need-schedule-handshake-requires
+schedule-handshake-requires c κs = search needs
+
+returns : tie.Need-returns
+unfolding scheduling
+returns c = cc
+
+pub schedule-handshake-spec : {M : Type 1} → statement M
+schedule-handshake-spec = tie.close (tie.spec add-schedule-handshake
+    schedule-handshake-requires
+    returns)

@@ -1,0 +1,34 @@
+use Rattle.tunnel.proofs.Framed.{way-cookie-refused, way-cookie-settled}
+use borrow.Author.Needs.{needs}
+use Rattle.tunnel.proofs.tunnel.Tunnel.handle_cookie_reply.Statement.{statement}
+use Rattle.tunnel.proofs.tunnel.Tunnel.handle_cookie_reply.Tie as tie
+
+opening-outcome-requires : tie.Need-opening-outcome-requires
+opening-outcome-requires c κs = search needs
+
+gate-requires : tie.Need-gate-requires
+gate-requires c κs = search needs
+
+refused-requires : tie.Need-refused-requires
+refused-requires c κs = search needs
+
+returns : tie.Need-returns
+returns c = search (way-cookie-refused, needs)
+
+handle-cookie-reply-requires : tie.Need-handle-cookie-reply-requires
+handle-cookie-reply-requires c κs = search needs
+
+settled-requires : tie.Need-settled-requires
+settled-requires c κs = search needs
+
+returns-2 : tie.Need-returns-2
+returns-2 c = search (way-cookie-settled, needs)
+
+pub handle-cookie-reply-spec : {M : Type 1} → statement M
+handle-cookie-reply-spec = tie.close (tie.spec opening-outcome-requires
+    gate-requires
+    refused-requires
+    returns
+    handle-cookie-reply-requires
+    settled-requires
+    returns-2)

@@ -1,0 +1,46 @@
+use Rattle.tunnel.proofs.Framed.{open-ring, way-response-refused, way-response-settled}
+use borrow.Author.Needs.{needs}
+use Rattle.tunnel.proofs.tunnel.Tunnel.handle_handshake_response.Statement.{statement}
+use Rattle.tunnel.proofs.tunnel.Tunnel.handle_handshake_response.Tie as tie
+
+opening-outcome-requires : tie.Need-opening-outcome-requires
+opening-outcome-requires c κs = search needs
+
+bad-outcome-requires : tie.Need-bad-outcome-requires
+bad-outcome-requires c κs = search needs
+
+gate-requires : tie.Need-gate-requires
+gate-requires c κs = search needs
+
+refused-requires : tie.Need-refused-requires
+refused-requires c κs = search needs
+
+same-length : tie.Need-same-length
+same-length c = search needs
+
+returns : tie.Need-returns
+returns c = search (way-response-refused, needs)
+
+handle-handshake-response-requires : tie.Need-handle-handshake-response-requires
+handle-handshake-response-requires c κs = search (open-ring, needs)
+
+settled-requires : tie.Need-settled-requires
+settled-requires c κs = search needs
+
+same-length-2 : tie.Need-same-length-2
+same-length-2 c = search needs
+
+returns-2 : tie.Need-returns-2
+returns-2 c = search (way-response-settled, needs)
+
+pub handle-handshake-response-spec : {M : Type 1} → statement M
+handle-handshake-response-spec = tie.close (tie.spec opening-outcome-requires
+    bad-outcome-requires
+    gate-requires
+    refused-requires
+    same-length
+    returns
+    handle-handshake-response-requires
+    settled-requires
+    same-length-2
+    returns-2)

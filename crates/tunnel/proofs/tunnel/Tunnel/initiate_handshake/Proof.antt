@@ -1,0 +1,33 @@
+use Rattle.tunnel.proofs.Framed.{way-refused, way-settled}
+use Rattle.tunnel.specs.Tunnel.{callStart}
+use borrow.Author.Needs.{needs}
+use Rattle.tunnel.proofs.tunnel.Tunnel.initiate_handshake.Statement.{statement}
+use Rattle.tunnel.proofs.tunnel.Tunnel.initiate_handshake.Tie as tie
+
+gate-requires : tie.Need-gate-requires
+gate-requires c κs = search needs
+
+refused-requires : tie.Need-refused-requires
+refused-requires c κs = search needs
+
+returns : tie.Need-returns
+unfolding callStart
+returns c = search (way-refused, needs)
+
+initiate-handshake-requires : tie.Need-initiate-handshake-requires
+initiate-handshake-requires c κs = search needs
+
+settled-requires : tie.Need-settled-requires
+settled-requires c κs = search needs
+
+returns-2 : tie.Need-returns-2
+unfolding callStart
+returns-2 c = search (way-settled, needs)
+
+pub initiate-handshake-spec : {M : Type 1} → statement M
+initiate-handshake-spec = tie.close (tie.spec gate-requires
+    refused-requires
+    returns
+    initiate-handshake-requires
+    settled-requires
+    returns-2)

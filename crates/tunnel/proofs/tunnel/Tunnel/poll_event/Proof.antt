@@ -1,0 +1,33 @@
+use Rattle.tunnel.proofs.Framed.{still-ring, way-timeless-refused, way-timeless-settled}
+use Rattle.tunnel.specs.Tunnel.{callEvent}
+use borrow.Author.Needs.{needs}
+use Rattle.tunnel.proofs.tunnel.Tunnel.poll_event.Statement.{statement}
+use Rattle.tunnel.proofs.tunnel.Tunnel.poll_event.Tie as tie
+
+timeless-gate-requires : tie.Need-timeless-gate-requires
+timeless-gate-requires c κs = search needs
+
+refused-requires : tie.Need-refused-requires
+refused-requires c κs = search needs
+
+returns : tie.Need-returns
+unfolding callEvent
+returns c = search (way-timeless-refused, needs)
+
+poll-event-requires : tie.Need-poll-event-requires
+poll-event-requires c κs = search (still-ring, needs)
+
+settled-requires : tie.Need-settled-requires
+settled-requires c κs = search needs
+
+returns-2 : tie.Need-returns-2
+unfolding callEvent
+returns-2 c = search (way-timeless-settled, needs)
+
+pub poll-event-spec : {M : Type 1} → statement M
+poll-event-spec = tie.close (tie.spec timeless-gate-requires
+    refused-requires
+    returns
+    poll-event-requires
+    settled-requires
+    returns-2)

@@ -1,0 +1,53 @@
+use Rattle.tunnel.proofs.Framed.{open-ring, way-batch-refused, way-batch-settled}
+use Rattle.tunnel.specs.Tunnel.{callReceive}
+use borrow.Author.Needs.{needs}
+use Rattle.tunnel.proofs.tunnel.Tunnel.receive.Statement.{statement}
+use Rattle.tunnel.proofs.tunnel.Tunnel.receive.Tie as tie
+
+bad-batch-requires : tie.Need-bad-batch-requires
+bad-batch-requires c κs = search needs
+
+gate-requires : tie.Need-gate-requires
+gate-requires c κs = search needs
+
+refused-requires : tie.Need-refused-requires
+refused-requires c κs = search needs
+
+same-length : tie.Need-same-length
+same-length c = search needs
+
+same-length-2 : tie.Need-same-length-2
+same-length-2 c = search needs
+
+returns : tie.Need-returns
+unfolding callReceive
+returns c = search (way-batch-refused, needs)
+
+commit-decapsulate-requires : tie.Need-commit-decapsulate-requires
+commit-decapsulate-requires c κs = search (open-ring, needs)
+
+settled-requires : tie.Need-settled-requires
+settled-requires c κs = search needs
+
+same-length-3 : tie.Need-same-length-3
+same-length-3 c = search needs
+
+same-length-4 : tie.Need-same-length-4
+same-length-4 c = search needs
+
+returns-2 : tie.Need-returns-2
+unfolding callReceive
+returns-2 c = search (way-batch-settled, needs)
+
+pub receive-spec : {M : Type 1} → statement M
+receive-spec = tie.close (tie.spec bad-batch-requires
+    gate-requires
+    refused-requires
+    same-length
+    same-length-2
+    returns
+    commit-decapsulate-requires
+    settled-requires
+    same-length-3
+    same-length-4
+    returns-2)

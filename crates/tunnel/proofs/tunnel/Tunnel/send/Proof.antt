@@ -1,0 +1,33 @@
+use Rattle.tunnel.proofs.Framed.{way-refused, way-settled}
+use Rattle.tunnel.specs.Tunnel.{callSend}
+use borrow.Author.Needs.{needs}
+use Rattle.tunnel.proofs.tunnel.Tunnel.send.Statement.{statement}
+use Rattle.tunnel.proofs.tunnel.Tunnel.send.Tie as tie
+
+gate-requires : tie.Need-gate-requires
+gate-requires c κs = search needs
+
+refused-requires : tie.Need-refused-requires
+refused-requires c κs = search needs
+
+returns : tie.Need-returns
+unfolding callSend
+returns c = search (way-refused, needs)
+
+send-requires : tie.Need-send-requires
+send-requires c κs = search needs
+
+settled-requires : tie.Need-settled-requires
+settled-requires c κs = search needs
+
+returns-2 : tie.Need-returns-2
+unfolding callSend
+returns-2 c = search (way-settled, needs)
+
+pub send-spec : {M : Type 1} → statement M
+send-spec = tie.close (tie.spec gate-requires
+    refused-requires
+    returns
+    send-requires
+    settled-requires
+    returns-2)

@@ -1,0 +1,19 @@
+use Rattle.tunnel.specs.Tunnel.{settled}
+use borrow.Author.Needs.{needs}
+use Rattle.tunnel.proofs.tunnel.Tunnel.settled.Statement.{statement}
+use Rattle.tunnel.proofs.tunnel.Tunnel.settled.Tie as tie
+
+set-if-requires : tie.Need-set-if-requires
+set-if-requires c κs = search needs
+
+set-if-requires-2 : tie.Need-set-if-requires-2
+set-if-requires-2 c κs = search needs
+
+returns : tie.Need-returns
+unfolding settled
+returns c = cc
+
+pub settled-spec : {M : Type 1} → statement M
+settled-spec = tie.close (tie.spec set-if-requires
+    set-if-requires-2
+    returns)

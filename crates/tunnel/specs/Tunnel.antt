@@ -1,0 +1,156 @@
+-- The calls: the checks 1, 2, 14 and 13 as one frame around what the Rust does, then the answer.
+use mathlib.Core.Path.{_≡_}
+use mathlib.Core.Bool.{Bool, true, false}
+use mathlib.Core.List.{List}
+use Prim.Native.Nat.{ℕ}
+use lib.Dec.{ltb, eqb}
+use Rattle.base.specs.Choice.{choose}
+use Rattle.sessions.specs.Session.{timeLimit}
+use Rattle.sessions.specs.Store.{zeros}
+use Rattle.tunnel.specs.Arguments.{intervalOf, openingOutcome, initiationOutcome, lacking, badOutcome, badJitter, badBatch, creationNumber}
+use Rattle.tunnel.specs.Check.{undamaged}
+use Rattle.tunnel.specs.Control.{Turn, newControl, outcome, pollEvent, missingReport}
+use Rattle.tunnel.specs.Deadlines.{pollTimeout}
+use Rattle.tunnel.specs.Messages.{startHandshake, restartHandshake, handleHandshakeInitiation, handleHandshakeResponse, handleCookieReply}
+use Rattle.tunnel.specs.Transport.{Batched, send, commitDecapsulate, beginDecapsulate}
+use Rattle.tunnel.specs.Waking.{handleTimeout}
+use Rattle.tunnel.specs.declared.answer.Answer.{Answer}
+use Rattle.tunnel.specs.declared.answer.Answer.the-variants.{No, Done, Deadline}
+use Rattle.tunnel.specs.declared.control.Out.{Out}
+use Rattle.tunnel.specs.declared.tunnel.Answered.{Answered}
+use Rattle.tunnel.specs.declared.tunnel.Tunnel.{Tunnel}
+
+-- a tunnel and an answer
+abbrev pub answered : Tunnel → Answer → Answered
+answered t answer = record { tunnel = t; answer = answer }
+
+-- the tunnel that a creation makes
+unfoldable pub made : (index keepalive now : ℕ) → Tunnel
+made index keepalive now = record { control = newControl index (intervalOf keepalive) now; «last_update» = now; greatest = now }
+
+-- the number that turns down a call at a time, or 0
+unfoldable pub gate : Tunnel → Bool → ℕ → ℕ
+gate t bad now = choose (ltb timeLimit now) 1 (choose bad 2 (choose (undamaged t) (choose (ltb now (t .greatest)) 13 0) 14))
+
+-- the number that turns down a call without a time, or 0
+unfoldable pub timelessGate : Tunnel → Bool → ℕ
+timelessGate t bad = choose bad 2 (choose (undamaged t) 0 14)
+
+-- a call that a check turns down
+unfoldable pub refused : Tunnel → ℕ → Answered
+refused t number = answered t (No number)
+
+-- a call that the checks let through
+unfoldable pub settled : Tunnel → ℕ → Out → Answered
+settled t now out =
+    answered
+    (record {
+      control = out .control;
+      «last_update» = choose (out .updates) now (t .«last_update»);
+      greatest = choose (out .raises) now (t .greatest);
+    })
+    (out .answer)
+
+-- the frame of a call at a time
+unfoldable pub timed : Tunnel → Bool → ℕ → Out → Answered
+timed t bad now out = choose (eqb (gate t bad now) 0) (settled t now out) (refused t (gate t bad now))
+
+-- the frame of a call without a time
+unfoldable pub timeless : Tunnel → Bool → Out → Answered
+timeless t bad out = choose (eqb (timelessGate t bad) 0) (settled t 0 out) (refused t (timelessGate t bad))
+
+-- a list or store as a call at a time leaves it: as it came where the call is turned down by a check
+unfoldable pub kept : Tunnel → Bool → ℕ → (came left : List ℕ) → List ℕ
+kept t bad now came left = choose (eqb (gate t bad now) 0) left came
+
+-- what a call with a store hands back
+pub record Called : Type 0 where
+  pub answered : Answered
+  pub store : List ℕ
+
+-- what a batch hands back
+pub record CalledBatch : Type 0 where
+  pub answered : Answered
+  pub store : List ℕ
+  pub verdicts : List ℕ
+
+-- the frame of a call at a time with a store
+unfoldable pub timedTurn : Tunnel → Bool → ℕ → List ℕ → Turn → Called
+timedTurn t bad now store turn = record { answered = timed t bad now (turn .out); store = kept t bad now store (turn .store) }
+
+-- the frame of a batch
+unfoldable pub timedBatch : Tunnel → Bool → ℕ → (store verdicts : List ℕ) → Batched → CalledBatch
+timedBatch t bad now store verdicts batch =
+    record {
+      answered = timed t bad now (batch .out);
+      store = kept t bad now store (batch .store);
+      verdicts = kept t bad now verdicts (batch .verdicts);
+    }
+
+-- creation: turned down, the tunnel made from index 0, no keepalive and time 0, and the store as it came
+unfoldable pub callNew : List ℕ → (index keepalive now : ℕ) → Called
+callNew store index keepalive now =
+    choose (eqb (creationNumber store keepalive now) 0)
+    (record { answered = answered (made index keepalive now) Done; store = zeros 1024 })
+    (record { answered = refused (made 0 0 0) (creationNumber store keepalive now); store = store })
+
+-- starting
+unfoldable pub callStart : Tunnel → ℕ → Answered
+callStart t now = timed t false now (startHandshake (t .control) now)
+
+-- restarting
+unfoldable pub callRestart : Tunnel → ℕ → Answered
+callRestart t now = timed t false now (restartHandshake (t .control) now)
+
+-- sending
+unfoldable pub callSend : Tunnel → (count now : ℕ) → Answered
+callSend t count now = timed t (eqb count 0) now (send (t .control) count now)
+
+-- receiving
+unfoldable pub callReceive : Tunnel → List ℕ → (index id now : ℕ) → (counters kinds verdicts : List ℕ) → CalledBatch
+callReceive t store index id now counters kinds verdicts =
+    timedBatch t (badBatch store counters kinds verdicts) now store verdicts
+    (commitDecapsulate (t .control) store index id now counters kinds verdicts)
+
+-- the early look
+unfoldable pub callLook : Tunnel → List ℕ → (index counter now : ℕ) → Answered
+callLook t store index counter now = timed t (lacking store) now (beginDecapsulate (t .control) store index counter now)
+
+-- an incoming initiation
+unfoldable pub callInitiation : Tunnel → List ℕ → (peer n now : ℕ) → Called
+callInitiation t store peer n now =
+    timedTurn t (badOutcome (initiationOutcome n) store) now store
+    (handleHandshakeInitiation (t .control) store peer (initiationOutcome n) now)
+
+-- a response
+unfoldable pub callResponse : Tunnel → List ℕ → (receiver peer n now : ℕ) → Called
+callResponse t store receiver peer n now =
+    timedTurn t (badOutcome (openingOutcome n) store) now store
+    (handleHandshakeResponse (t .control) store receiver peer (openingOutcome n) now)
+
+-- a cookie reply
+unfoldable pub callCookie : Tunnel → (receiver n now : ℕ) → Answered
+callCookie t receiver n now =
+    timed t (eqb (openingOutcome n) 2) now (handleCookieReply (t .control) receiver (openingOutcome n) now)
+
+-- a waking
+unfoldable pub callTimeout : Tunnel → List ℕ → (jitter now : ℕ) → Called
+callTimeout t store jitter now = timedTurn t (badJitter jitter store) now store (handleTimeout (t .control) store jitter now)
+
+-- the oldest event
+unfoldable pub callEvent : Tunnel → Answered
+callEvent t = timeless t false (pollEvent (t .control))
+
+-- the deadline
+unfoldable pub callDeadline : Tunnel → Answered
+callDeadline t = timeless t false (outcome (t .control) (Deadline (pollTimeout (t .control) (t .«last_update»))) false false)
+
+-- the missing report
+unfoldable pub callMissing : Tunnel → List ℕ → ℕ → Answered
+callMissing t store index = timeless t (lacking store) (missingReport (t .control) store index)
+
+-- what a batch hands back is what its definition says
+pub record LeavesBatch (call : CalledBatch) (answer : Answered) (store verdicts : List ℕ) : Type 0 where
+  pub out : answer ≡ call .answered
+  pub words : store ≡ call .store
+  pub list : verdicts ≡ call .verdicts

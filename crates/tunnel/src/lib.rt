@@ -1,0 +1,15 @@
+// The control of a tunnel, after src/tunnel.rs, without its ciphers: `tunnel::Tunnel` has the calls, each with the checks that
+// precede it; `control::Control` has the Rust's own behaviour.
+pub mod answer;
+pub mod arguments;
+pub mod check;
+pub mod control;
+pub mod deadlines;
+pub mod event;
+pub mod handshake;
+pub mod messages;
+pub mod ring_buffer;
+pub mod timers;
+pub mod transport;
+pub mod tunnel;
+pub mod waking;

@@ -1,0 +1,256 @@
+// Data and keepalives, sent and received.
+use crate::answer::Answer;
+use crate::control::Control;
+use crate::control::Out;
+use crate::event::Event;
+use sessions::batch::Received;
+use sessions::range::Range;
+use sessions::session::Reserved;
+use sessions::session::Session;
+use sessions::sessions::Found;
+ghost use mathlib.Core.Path.{_≡_};
+ghost use Rattle.sessions.specs.Batch.{receive};
+ghost use Rattle.tunnel.specs.RingBuffer.{RingWithin};
+ghost use Rattle.tunnel.specs.Transport.{beginEncapsulate, finishEncapsulate, grant, send, encryptKeepalive, confirmFirstSession, selecting, accept, batched, committed, committing, Commits, commitDecapsulate, beginDecapsulate};
+
+// A keepalive: its peer index and counter, or none for want of a session.
+pub enum Datagram {
+    Skipped,
+    Sent(u32, u64),
+}
+
+// The control after a keepalive.
+pub struct Encrypted {
+    pub control: Control,
+    pub keepalive: Datagram,
+}
+
+impl Control {
+    // Ticks both send timers and puts the session back.
+    fn begin_encapsulate(self, session: Session, now: u64) -> Control
+        ensures { λ r. ⌜ r ≡ beginEncapsulate self session now ⌝ }
+    {
+        let timers = self.timers;
+        let sessions = self.sessions;
+        let sent = timers.tick_last_packet_sent(now);
+        Control {
+            timers: sent.tick_last_data_packet_sent(now),
+            sessions: sessions.put(session),
+            ..self
+        }
+    }
+
+    // Reserves the counters of data messages.
+    fn finish(self, session: Session, count: u64) -> Out
+        ensures { λ r. ⌜ r ≡ finishEncapsulate self session count ⌝ }
+    {
+        let Reserved::First(first, counted) = session.reserve_counters(count) else {
+            return Out {
+                control: self,
+                answer: Answer::No(12),
+                raises: true,
+                updates: false,
+            };
+        };
+        let sessions = self.sessions;
+        let control = Control {
+            sessions: sessions.put(counted),
+            ..self
+        };
+        control.done(Answer::Granted(Range {
+            peer: counted.sending_index,
+            first,
+            length: count,
+        }))
+    }
+
+    // Grants consecutive counters of a session to data messages.
+    fn grant(self, session: Session, count: u64, now: u64) -> Out
+        ensures { λ r. ⌜ r ≡ grant self session count now ⌝ }
+    {
+        let prepared = session.prepare_packet_data();
+        let control = self.begin_encapsulate(prepared, now);
+        control.finish(prepared, count)
+    }
+
+    // Grants consecutive counters of the current sending session to data messages.
+    pub(crate) fn send(self, count: u64, now: u64) -> Out
+        ensures { λ r. ⌜ r ≡ send self count now ⌝ }
+    {
+        if self.is_expired() {
+            return self.refuse(11);
+        }
+        let sessions = self.sessions;
+        let Found::Got(session) = sessions.sending_session(now) else {
+            return self.refuse(12);
+        };
+        self.grant(session, count, now)
+    }
+
+    // Takes a counter of the current sending session for a keepalive.
+    pub(crate) fn encrypt_keepalive(self, now: u64) -> Encrypted
+        ensures { λ r. ⌜ r ≡ encryptKeepalive self now ⌝ }
+    {
+        let sessions = self.sessions;
+        let Found::Got(session) = sessions.sending_session(now) else {
+            return Encrypted {
+                control: self,
+                keepalive: Datagram::Skipped,
+            };
+        };
+        let Reserved::First(counter, counted) = session.reserve_counters(1) else {
+            return Encrypted {
+                control: self,
+                keepalive: Datagram::Skipped,
+            };
+        };
+        let timers = self.timers;
+        Encrypted {
+            control: Control {
+                sessions: sessions.put(counted),
+                timers: timers.tick_last_packet_sent(now),
+                ..self
+            },
+            keepalive: Datagram::Sent(counted.sending_index, counter),
+        }
+    }
+
+    // Queues the event of the first session's confirmation.
+    pub(crate) fn confirm_first_session(self, started_at: u64, now: u64) -> Control
+        requires { ⌜ RingWithin (self .events) ⌝ }
+        ensures { λ r. ⌜ r ≡ confirmFirstSession self «started_at» now ⌝ }
+    {
+        if self.established {
+            return self;
+        }
+        let control = self.push_back(Event::Established(started_at, now));
+        Control {
+            established: true,
+            ..control
+        }
+    }
+
+    // Selects the session of an accepted message and confirms the first one.
+    fn select(self, index: u32, accepted_at: u64, now: u64) -> Control
+        requires { ⌜ RingWithin (self .events) ⌝ }
+        ensures { λ r. ⌜ r ≡ selecting self index «accepted_at» now ⌝ }
+    {
+        let sessions = self.sessions;
+        let timers = self.timers;
+        let selected = Control {
+            sessions: sessions.set_current(index),
+            timers: timers.tick_last_packet_received(now),
+            ..self
+        };
+        selected.confirm_first_session(accepted_at, now)
+    }
+
+    // Notes that messages of a session were accepted.
+    fn accept(self, index: u32, accepted_at: u64, data: bool, now: u64) -> Control
+        requires { ⌜ RingWithin (self .events) ⌝ }
+        ensures { λ r. ⌜ r ≡ accept self index «accepted_at» «data» now ⌝ }
+    {
+        let control = self.select(index, accepted_at, now);
+        if data {
+            let ticked = control.timers;
+            return Control {
+                timers: ticked.tick_last_data_packet_received(now),
+                ..control
+            };
+        }
+        control
+    }
+
+    // The control after a batch that was not turned down.
+    fn batched(self, received: Received, index: u32, now: u64) -> Control
+        requires { ⌜ RingWithin (self .events) ⌝ }
+        ensures { λ r. ⌜ r ≡ batched self received index now ⌝ }
+    {
+        let after = received.sessions;
+        let control = Control {
+            sessions: after,
+            ..self
+        };
+        if received.accepted {
+            return control.accept(index, received.established_at, received.data, now);
+        }
+        control
+    }
+
+    // What a batch answers once the sessions have judged it.
+    fn committed(self, received: Received, index: u32, now: u64) -> Out
+        requires { ⌜ RingWithin (self .events) ⌝ }
+        ensures { λ r. ⌜ r ≡ committed self received index now ⌝ }
+    {
+        if received.number != 0 {
+            return self.refuse(received.number);
+        }
+        let control = self.batched(received, index, now);
+        control.done(Answer::Done)
+    }
+
+    // Has the sessions judge a batch.
+    fn commit(
+        self,
+        store: &mut [u64],
+        index: u32,
+        id: u64,
+        now: u64,
+        counters: &[u64],
+        kinds: &[u8],
+        verdicts: &mut [u8],
+    ) -> Out
+        requires { ⌜ RingWithin (self .events) ⌝ }
+        ensures { λ r. ⌜ Commits (committing self (receive (self .sessions) (store .entry .now) index id now (counters .entry .now) (kinds .entry .now) (verdicts .entry .now)) index now) r (store .exit .now) (verdicts .exit .now) ⌝ }
+    {
+        let sessions = self.sessions;
+        let received = sessions.receive(store, index, id, now, counters, kinds, verdicts);
+        self.committed(received, index, now)
+    }
+
+    // Accepts the messages of a batch after checking its session and their replay counters.
+    pub(crate) fn commit_decapsulate(
+        self,
+        store: &mut [u64],
+        index: u32,
+        id: u64,
+        now: u64,
+        counters: &[u64],
+        kinds: &[u8],
+        verdicts: &mut [u8],
+    ) -> Out
+        requires { ⌜ RingWithin (self .events) ⌝ }
+        ensures { λ r. ⌜ Commits (commitDecapsulate self (store .entry .now) index id now (counters .entry .now) (kinds .entry .now) (verdicts .entry .now)) r (store .exit .now) (verdicts .exit .now) ⌝ }
+    {
+        if self.is_expired() {
+            return self.refuse(11);
+        }
+        self.commit(store, index, id, now, counters, kinds, verdicts)
+    }
+
+    // The early look at a data message, which changes nothing.
+    pub(crate) fn begin_decapsulate(self, store: &[u64], index: u32, counter: u64, now: u64) -> Out
+        ensures { λ r. ⌜ r ≡ beginDecapsulate self (store .entry .now) index counter now ⌝ }
+    {
+        if self.is_expired() {
+            return self.refuse(11);
+        }
+        let sessions = self.sessions;
+        let Found::Got(session) = sessions.in_slot_of(index) else {
+            return self.refuse(12);
+        };
+        if session.expired_at(now) {
+            return self.refuse(12);
+        }
+        let number = session.will_receive(store, index, counter);
+        if number != 0 {
+            return self.refuse(number);
+        }
+        Out {
+            control: self,
+            answer: Answer::Done,
+            raises: false,
+            updates: false,
+        }
+    }
+}

@@ -1,0 +1,312 @@
+// The calls. Each hands the tunnel back with its answer; one that is turned down answers `No` with its number. The checks come in
+// the order 1, 2, 14, 13; then follows what the Rust itself tests.
+use crate::answer::Answer;
+use crate::arguments::bad_batch;
+use crate::arguments::bad_jitter;
+use crate::arguments::bad_outcome;
+use crate::arguments::creation_number;
+use crate::arguments::initiation_outcome;
+use crate::arguments::interval_of;
+use crate::arguments::lacks;
+use crate::arguments::opening_outcome;
+use crate::control::Control;
+use crate::control::Out;
+use sessions::store::zero;
+ghost use mathlib.Core.Path.{_≡_};
+ghost use Rattle.base.specs.Choice.{choose};
+ghost use Rattle.sessions.specs.Store.{Leaves};
+ghost use Rattle.tunnel.specs.Tunnel.{made, gate, timelessGate, refused, settled, LeavesBatch, callNew, callStart, callRestart, callSend, callReceive, callLook, callInitiation, callResponse, callCookie, callTimeout, callEvent, callDeadline, callMissing};
+
+// The greatest time that a call may have.
+pub const TIME_LIMIT: u64 = 4_000_000_000_000_000_000;
+
+pub struct Tunnel {
+    pub control: Control,
+    // `TimeLastUpdate`: when the timers were last updated.
+    pub last_update: u64,
+    // The greatest time that a call had.
+    pub greatest: u64,
+}
+
+// The tunnel after a call, and the call's answer.
+pub struct Answered {
+    pub tunnel: Tunnel,
+    pub answer: Answer,
+}
+
+// A time is set where it is to be, and otherwise stays.
+fn set_if(sets: bool, now: u64, before: u64) -> u64
+    ensures { λ r. ⌜ r ≡ choose sets now before ⌝ }
+{
+    if sets {
+        return now;
+    }
+    before
+}
+
+impl Tunnel {
+    // The tunnel that a creation makes.
+    fn made(index: u32, keepalive: u64, now: u64) -> Tunnel
+        ensures { λ r. ⌜ r ≡ made index keepalive now ⌝ }
+    {
+        Tunnel {
+            control: Control::new(index, interval_of(keepalive), now),
+            last_update: now,
+            greatest: now,
+        }
+    }
+
+    // The number that turns down a call at a time, or 0.
+    fn gate(self, bad: bool, now: u64) -> u8
+        ensures { λ r. ⌜ r ≡ gate self bad now ⌝ }
+    {
+        if now > TIME_LIMIT {
+            return 1;
+        }
+        if bad {
+            return 2;
+        }
+        if self.undamaged() {
+            if now < self.greatest {
+                return 13;
+            }
+            return 0;
+        }
+        14
+    }
+
+    // The number that turns down a call without a time, or 0.
+    fn timeless_gate(self, bad: bool) -> u8
+        ensures { λ r. ⌜ r ≡ timelessGate self bad ⌝ }
+    {
+        if bad {
+            return 2;
+        }
+        if self.undamaged() {
+            return 0;
+        }
+        14
+    }
+
+    // A call that a check turns down.
+    fn refused(self, number: u8) -> Answered
+        ensures { λ r. ⌜ r ≡ refused self number ⌝ }
+    {
+        Answered {
+            tunnel: self,
+            answer: Answer::No(number),
+        }
+    }
+
+    // A call that the checks let through.
+    fn settled(self, now: u64, out: Out) -> Answered
+        ensures { λ r. ⌜ r ≡ settled self now out ⌝ }
+    {
+        let control = out.control;
+        let answer = out.answer;
+        Answered {
+            tunnel: Tunnel {
+                control,
+                last_update: set_if(out.updates, now, self.last_update),
+                greatest: set_if(out.raises, now, self.greatest),
+            },
+            answer,
+        }
+    }
+
+    // Creates a tunnel and zeroes the store. Turned down, it hands back the tunnel made from index 0, no keepalive and time 0.
+    pub fn new(store: &mut [u64], index: u32, keepalive: u64, now: u64) -> Answered
+        ensures { λ r. ⌜ Leaves r (callNew (store .entry .now) index keepalive now .answered) (store .exit .now) (callNew (store .entry .now) index keepalive now .store) ⌝ }
+    {
+        let number = creation_number(store, keepalive, now);
+        if number != 0 {
+            let none = Tunnel::made(0, 0, 0);
+            return none.refused(number);
+        }
+        zero(store);
+        Answered {
+            tunnel: Tunnel::made(index, keepalive, now),
+            answer: Answer::Done,
+        }
+    }
+
+    // Starts a handshake: answers its local index, or nothing where one is in progress or the tunnel is expired.
+    pub fn initiate_handshake(self, now: u64) -> Answered
+        ensures { λ r. ⌜ r ≡ callStart self now ⌝ }
+    {
+        let number = self.gate(false, now);
+        if number != 0 {
+            return self.refused(number);
+        }
+        let control = self.control;
+        self.settled(now, control.initiate_handshake(now))
+    }
+
+    // Starts a new handshake, replacing one in progress: answers its local index, or nothing where the tunnel is expired.
+    pub fn restart_handshake(self, now: u64) -> Answered
+        ensures { λ r. ⌜ r ≡ callRestart self now ⌝ }
+    {
+        let number = self.gate(false, now);
+        if number != 0 {
+            return self.refused(number);
+        }
+        let control = self.control;
+        self.settled(now, control.restart_handshake(now))
+    }
+
+    // Grants a range of counters.
+    pub fn send(self, count: u64, now: u64) -> Answered
+        ensures { λ r. ⌜ r ≡ callSend self count now ⌝ }
+    {
+        let number = self.gate(count == 0, now);
+        if number != 0 {
+            return self.refused(number);
+        }
+        let control = self.control;
+        self.settled(now, control.send(count, now))
+    }
+
+    // Commits a batch to the session with this local index and session id, and fills in the verdicts.
+    pub fn receive(
+        self,
+        store: &mut [u64],
+        index: u32,
+        id: u64,
+        now: u64,
+        counters: &[u64],
+        kinds: &[u8],
+        verdicts: &mut [u8],
+    ) -> Answered
+        ensures { λ r. ⌜ LeavesBatch (callReceive self (store .entry .now) index id now (counters .entry .now) (kinds .entry .now) (verdicts .entry .now)) r (store .exit .now) (verdicts .exit .now) ⌝ }
+    {
+        let bad = bad_batch(store, counters, kinds, verdicts);
+        let number = self.gate(bad, now);
+        if number != 0 {
+            return self.refused(number);
+        }
+        let control = self.control;
+        let out = control.commit_decapsulate(store, index, id, now, counters, kinds, verdicts);
+        self.settled(now, out)
+    }
+
+    // The early look at a data message.
+    pub fn look(self, store: &[u64], index: u32, counter: u64, now: u64) -> Answered
+        ensures { λ r. ⌜ r ≡ callLook self (store .entry .now) index counter now ⌝ }
+    {
+        let number = self.gate(lacks(store), now);
+        if number != 0 {
+            return self.refused(number);
+        }
+        let control = self.control;
+        self.settled(now, control.begin_decapsulate(store, index, counter, now))
+    }
+
+    // Answers an incoming initiation with its new local index and the peer's.
+    pub fn handle_handshake_initiation(
+        self,
+        store: &mut [u64],
+        peer: u32,
+        outcome: u64,
+        now: u64,
+    ) -> Answered
+        ensures { λ r. ⌜ Leaves r (callInitiation self (store .entry .now) peer outcome now .answered) (store .exit .now) (callInitiation self (store .entry .now) peer outcome now .store) ⌝ }
+    {
+        let found = initiation_outcome(outcome);
+        let bad = bad_outcome(found, store);
+        let number = self.gate(bad, now);
+        if number != 0 {
+            return self.refused(number);
+        }
+        let control = self.control;
+        let out = control.handle_handshake_initiation(store, peer, found, now);
+        self.settled(now, out)
+    }
+
+    // Completes a handshake with a response: answers the peer's index and the keepalive's counter.
+    pub fn handle_handshake_response(
+        self,
+        store: &mut [u64],
+        receiver: u32,
+        peer: u32,
+        outcome: u64,
+        now: u64,
+    ) -> Answered
+        ensures { λ r. ⌜ Leaves r (callResponse self (store .entry .now) receiver peer outcome now .answered) (store .exit .now) (callResponse self (store .entry .now) receiver peer outcome now .store) ⌝ }
+    {
+        let found = opening_outcome(outcome);
+        let bad = bad_outcome(found, store);
+        let number = self.gate(bad, now);
+        if number != 0 {
+            return self.refused(number);
+        }
+        let control = self.control;
+        let out = control.handle_handshake_response(store, receiver, peer, found, now);
+        self.settled(now, out)
+    }
+
+    // Stores the cookie of a reply.
+    pub fn handle_cookie_reply(self, receiver: u32, outcome: u64, now: u64) -> Answered
+        ensures { λ r. ⌜ r ≡ callCookie self receiver outcome now ⌝ }
+    {
+        let found = opening_outcome(outcome);
+        let number = self.gate(found == 2, now);
+        if number != 0 {
+            return self.refused(number);
+        }
+        let control = self.control;
+        self.settled(now, control.handle_cookie_reply(receiver, found, now))
+    }
+
+    // Wakes the tunnel: advances its timers and queues due events.
+    pub fn handle_timeout(self, store: &mut [u64], jitter: u64, now: u64) -> Answered
+        ensures { λ r. ⌜ Leaves r (callTimeout self (store .entry .now) jitter now .answered) (store .exit .now) (callTimeout self (store .entry .now) jitter now .store) ⌝ }
+    {
+        let bad = bad_jitter(jitter, store);
+        let number = self.gate(bad, now);
+        if number != 0 {
+            return self.refused(number);
+        }
+        let control = self.control;
+        let out = control.handle_timeout(store, jitter, now);
+        self.settled(now, out)
+    }
+
+    // Answers the oldest queued event.
+    pub fn poll_event(self) -> Answered
+        ensures { λ r. ⌜ r ≡ callEvent self ⌝ }
+    {
+        let number = self.timeless_gate(false);
+        if number != 0 {
+            return self.refused(number);
+        }
+        let control = self.control;
+        self.settled(0, control.poll_event())
+    }
+
+    // Answers the next deadline for waking the tunnel.
+    pub fn poll_timeout(self) -> Answered
+        ensures { λ r. ⌜ r ≡ callDeadline self ⌝ }
+    {
+        let number = self.timeless_gate(false);
+        if number != 0 {
+            return self.refused(number);
+        }
+        let control = self.control;
+        Answered {
+            tunnel: self,
+            answer: Answer::Deadline(control.poll_timeout(self.last_update)),
+        }
+    }
+
+    // Answers how many window counters of the session with this local index are not committed.
+    pub fn missing(self, store: &[u64], index: u32) -> Answered
+        ensures { λ r. ⌜ r ≡ callMissing self (store .entry .now) index ⌝ }
+    {
+        let number = self.timeless_gate(lacks(store));
+        if number != 0 {
+            return self.refused(number);
+        }
+        let control = self.control;
+        self.settled(0, control.missing(store, index))
+    }
+}
