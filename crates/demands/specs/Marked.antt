@@ -1,13 +1,22 @@
 -- The marked cases of document 01, in one table: what is set up, what is called, what must come out.
 use mathlib.Core.Bool.{Bool, true, false, not}
 use mathlib.Core.List.{List, [], _∷_}
-use Prim.Native.Nat.{ℕ, _-_}
+use Prim.Native.Nat.{ℕ, zero, suc, _-_}
 use lib.Dec.{eqb}
 use Rattle.base.specs.Choice.{choose}
 use Rattle.sessions.specs.Session.{caseReserved, newSession, withCounter, reserveCounters}
 use Rattle.sessions.specs.Sessions.{caseFound, newSessions, nextIndex, inserting, select, sendingSession}
 use Rattle.sessions.specs.declared.session.Role.{Role}
 use Rattle.sessions.specs.declared.session.Role.the-variants.{Initiator, Responder}
+use Rattle.sessions.specs.Store.{zeros}
+use Rattle.tunnel.specs.Answer.{Word, eventValues, wordOf, valuesOf}
+use Rattle.tunnel.specs.Answer.Word.{turned, bare, none, init, resp, key, est, exp, at}
+use Rattle.tunnel.specs.RingBuffer.{newRing, pushBack, popFront}
+use Rattle.tunnel.specs.Tunnel.{callNew, callTimeout, callEvent, callDeadline}
+use Rattle.tunnel.specs.declared.answer.Answer.{Answer}
+use Rattle.tunnel.specs.declared.event.Event.the-variants.{SendHandshakeInitiation}
+use Rattle.tunnel.specs.declared.ring_buffer.RingBuffer.{RingBuffer}
+use Rattle.tunnel.specs.declared.tunnel.Tunnel.{Tunnel}
 use Rattle.window.specs.Window.{limit, empty, setBit}
 use Rattle.window.specs.History.{Window, verdict, given}
 
@@ -52,6 +61,34 @@ unfoldable pub sends : Role → ℕ → Bool
 sends role now =
     caseFound (sendingSession (select (inserting (newSessions 256) (newSession 257 9 role 0)) 257) now) false (λ session. true)
 
+-- two words are the same
+unfoldable pub code : Word → ℕ
+code turned = 0
+code bare = 1
+code none = 2
+code init = 3
+code resp = 4
+code key = 5
+code Word.range = 6
+code est = 7
+code exp = 8
+code at = 9
+code Word.missing = 10
+
+-- an answer has this word and these values
+unfoldable pub says : Answer → Word → List ℕ → Bool
+says answer word values = both (eqb (code (wordOf answer)) (code word)) (same (valuesOf answer) values)
+
+-- a ring into which so many events were put, the initiations 1, 2 on
+unfoldable pub filled : ℕ → RingBuffer
+filled zero = newRing
+filled (suc count) = pushBack (filled count) (SendHandshakeInitiation (suc count))
+
+-- a tunnel created at time 0 with a keepalive of so many seconds, and woken at a time
+unfoldable pub wokenAt : (keepalive now : ℕ) → Tunnel
+wokenAt keepalive now =
+    callTimeout (callNew (zeros 1024) 256 keepalive 0 .answered .tunnel) (callNew (zeros 1024) 256 keepalive 0 .store) 0 now .answered .tunnel
+
 -- a marked case
 pub data Case : Type 0 where
   -- a window that stands at `next` with just `committed` committed is given `counters`, answers `answers`, and then stands at `nextThen`
@@ -63,6 +100,11 @@ pub data Case : Type 0 where
   onIndex : (last next : ℕ) → Case
   -- a session of this role sends at this age, or not
   onAge : (role : Role) (age : ℕ) (answer : Bool) → Case
+  -- of so many events, the initiations 1, 2 on, this one is polled first
+  onRing : (events first : ℕ) → Case
+  -- a tunnel with no session and a keepalive of so many seconds, created at 0 and woken at `now`, has no event, this deadline, and its
+  -- keepalive timer at this time
+  onWaking : (keepalive now deadline kept : ℕ) → Case
 
 -- what a case says, as a test
 unfoldable pub holds : Case → Bool
@@ -72,6 +114,11 @@ holds (onWindow next committed counters answers nextThen committedThen) =
 holds (onCounters counter count answer) = same (reserving counter count) answer
 holds (onIndex last next) = eqb (nextIndex (newSessions last) .index) next
 holds (onAge role age answer) = choose answer (sends role age) (not (sends role age))
+holds (onRing events first) = same (eventValues (popFront (filled events) .event)) (first ∷ [])
+holds (onWaking keepalive now deadline kept) =
+    both (says (callEvent (wokenAt keepalive now) .answer) none [])
+    (both (says (callDeadline (wokenAt keepalive now) .answer) at (deadline ∷ []))
+    (eqb (wokenAt keepalive now .control .timers .«time_persistent_keepalive») kept))
 
 -- every case of a table
 unfoldable pub holdAll : List Case → Bool
@@ -96,9 +143,14 @@ marked =
     ∷ onCounters (limit - 1) 2 []
     -- M7: no session current, index 511 is followed by 256
     ∷ onIndex 511 256
+    -- M8: seventeen events, the second is polled first
+    ∷ onRing 17 2
     -- M9: an initiator's session sends at age 170 s and not one nanosecond later; a responder's not at 180 s
     ∷ onAge Initiator 170000000000 true
     ∷ onAge Initiator 170000000001 false
     ∷ onAge Responder 179999999999 true
     ∷ onAge Responder 180000000000 false
+    -- M10: keepalive 25 s, no session, created at 0, woken at 25 s: no event, the deadline is still 540 s, the keepalive timer now stands
+    -- at 25 s
+    ∷ onWaking 25 25000000000 540000000000 25000000000
     ∷ []

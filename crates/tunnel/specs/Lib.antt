@@ -1,3 +1,4 @@
+pub mod Answer
 pub mod Arguments
 pub mod Check
 pub mod Control

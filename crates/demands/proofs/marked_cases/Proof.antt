@@ -2,16 +2,29 @@ use mathlib.Core.Path.{refl}
 use Rattle.base.specs.Bits.{bit}
 use Rattle.base.specs.Choice.{choose}
 use Rattle.sessions.specs.Index.{wrappingIncrement}
-use Rattle.sessions.specs.Session.{caseReserved, caseRole, newSession, emptySession, expiredAt, shouldUseAt, sendingCounterExhausted, reserveCounters}
-use Rattle.sessions.specs.Sessions.{caseFound, caseSelected, emptySlots, newSessions, inSlotOf, get, put, currentOf, inCurrentSlot, indexAfter, nextIndex, inserting, usable, sendingSession, select}
+use Rattle.sessions.specs.Session.{caseTime, dueBy, least, earlier, expiresAt, caseReserved, caseRole, newSession, emptySession, expiredAt, shouldUseAt, sendingCounterExhausted, reserveCounters}
+use Rattle.sessions.specs.Sessions.{caseFound, caseSelected, emptySlots, newSessions, inSlotOf, get, put, currentOf, inCurrentSlot, indexAfter, nextIndex, inserting, usable, sendingSession, select, expiredSlot, expireSlot, expireFirst, expire, slotExpiry, firstExpiry}
+use Rattle.sessions.specs.Store.{zeros}
+use Rattle.tunnel.specs.Answer.{numberOf, eventWord, eventValues, timeWord, timeValues, wordOf, valuesOf}
+use Rattle.tunnel.specs.Arguments.{intervalOf, lacking, badJitter, creationNumber}
+use Rattle.tunnel.specs.Check.{timeHolds, stateHolds, inRange, intervalHolds, bothAtMost, eventHolds, slotHolds, slotsHold, queueHolds, eventsHold, handshakeHolds, packetTimersHold, dataTimersHold, fieldsHold, timersHold, storedHolds, controlHolds, undamaged}
+use Rattle.tunnel.specs.Control.{newControl, refuse, done, expiredControl, queueing, pollEvent}
+use Rattle.tunnel.specs.Deadlines.{scheduledHandshake, earliestExpiry, cookieDeadline, rejectDeadline, attemptDeadline, handshakeRekeyTimeout, rekeyOnSend, rekeyAfterMessages, rekeyOnReceive, responseDeadline, passiveDeadline, persistentDeadline, currentPersistentDeadline, commonDeadline, rekeyDeadline, keepaliveDeadline, unscheduledDeadline, nextDeadline, notBefore, pollTimeout}
+use Rattle.tunnel.specs.Event.{caseEvent}
+use Rattle.tunnel.specs.Handshake.{caseState, newHandshake, isInProgress, inFlightInitiation, isExpired, cookieExpiration}
+use Rattle.tunnel.specs.RingBuffer.{placeOf, emptyPlaces, newRing, ringIsEmpty, storeAt, pushBack, popFront, eventsFrom, queued}
+use Rattle.tunnel.specs.Timers.{caseInterval, newTimers, rejectAfterTimeOf, rekeyAfterTimeWithoutResponse, keepaliveAfterTimeWithoutSend, nextPersistentKeepalive, tickPersistentKeepalive, rekeyTimeoutOf}
+use Rattle.tunnel.specs.Transport.{caseDatagram, encryptKeepalive}
+use Rattle.tunnel.specs.Tunnel.{made, gate, timelessGate, refused, settled, timed, timeless, kept, timedTurn, callNew, callTimeout, callEvent, callDeadline}
+use Rattle.tunnel.specs.Waking.{queueKeepalive, persistentKeepalive, keepalives, rekeyDue, wakeIdle, expireCookie, wakeLater, wakeRest, wakeCurrent, wakeSessions, wake, handleTimeout}
 use Rattle.window.specs.Window.{bitAt, checkBit, setBit, clearBit, clears, empty, advance, isInvalid, willAccept, nextAfter, wordsAfter}
 use Rattle.window.specs.History.{verdict, given}
-use Rattle.demands.specs.Marked.{same, standing, sameWindow, after, verdicts, reserving, sends, holds, holdAll, marked}
+use Rattle.demands.specs.Marked.{same, standing, sameWindow, after, verdicts, reserving, sends, code, says, filled, wokenAt, holds, holdAll, marked}
 use Rattle.demands.proofs.marked_cases.Statement.{statement}
 use Rattle.demands.proofs.marked_cases.Tie as tie
 
 returns : tie.Need-returns
-unfolding bit choose bitAt checkBit setBit clearBit clears empty advance isInvalid willAccept nextAfter wordsAfter verdict given same standing sameWindow after verdicts wrappingIncrement caseReserved caseRole newSession emptySession expiredAt shouldUseAt sendingCounterExhausted reserveCounters caseFound caseSelected emptySlots newSessions inSlotOf get put currentOf inCurrentSlot indexAfter nextIndex inserting usable sendingSession select reserving sends holds holdAll marked
+unfolding bit choose bitAt checkBit setBit clearBit clears empty advance isInvalid willAccept nextAfter wordsAfter verdict given same standing sameWindow after verdicts wrappingIncrement caseReserved caseRole newSession emptySession expiredAt shouldUseAt sendingCounterExhausted reserveCounters caseFound caseSelected emptySlots newSessions inSlotOf get put currentOf inCurrentSlot indexAfter nextIndex inserting usable sendingSession select numberOf eventWord eventValues timeWord timeValues wordOf valuesOf intervalOf lacking badJitter creationNumber timeHolds stateHolds inRange intervalHolds bothAtMost eventHolds slotHolds slotsHold queueHolds eventsHold handshakeHolds packetTimersHold dataTimersHold fieldsHold timersHold storedHolds controlHolds undamaged newControl refuse done expiredControl queueing pollEvent scheduledHandshake earliestExpiry cookieDeadline rejectDeadline attemptDeadline handshakeRekeyTimeout rekeyOnSend rekeyAfterMessages rekeyOnReceive responseDeadline passiveDeadline persistentDeadline currentPersistentDeadline commonDeadline rekeyDeadline keepaliveDeadline unscheduledDeadline nextDeadline notBefore pollTimeout caseEvent caseState newHandshake isInProgress inFlightInitiation isExpired cookieExpiration placeOf emptyPlaces newRing ringIsEmpty storeAt pushBack popFront eventsFrom queued caseInterval newTimers rejectAfterTimeOf rekeyAfterTimeWithoutResponse keepaliveAfterTimeWithoutSend nextPersistentKeepalive tickPersistentKeepalive rekeyTimeoutOf caseDatagram encryptKeepalive made gate timelessGate refused settled timed timeless kept timedTurn callNew callTimeout callEvent callDeadline queueKeepalive persistentKeepalive keepalives rekeyDue wakeIdle expireCookie wakeLater wakeRest wakeCurrent wakeSessions wake handleTimeout caseTime dueBy least earlier expiredSlot expireSlot expireFirst expire slotExpiry firstExpiry expiresAt zeros reserving sends code says filled wokenAt holds holdAll marked
 returns c = refl
 
 pub marked-cases-spec : {M : Type 1} → statement M
