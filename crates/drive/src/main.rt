@@ -1,0 +1,279 @@
+// Reads calls from standard input, one a line, and writes one line for each to standard output.
+use libc::STDIN_FILENO;
+use libc::STDOUT_FILENO;
+use script::answer::put_line;
+use script::call::call;
+use script::gather::Gathered;
+use script::gather::newline;
+use script::line::Line;
+use script::line::admitted;
+use script::line::read;
+use script::line::starts;
+use tunnel::answer::Answer;
+use tunnel::tunnel::Answered;
+use tunnel::tunnel::Tunnel;
+ghost use Prim.Native.Nat.{_≤_};
+ghost use lib.ListN.{length};
+
+// What stands between input and output: whether a line has made the tunnel, the line that has begun, and how many bytes of output
+// wait.
+struct Console {
+    started: bool,
+    gathered: Gathered,
+    written: usize,
+}
+
+// What the program holds from turn to turn.
+struct Progress {
+    tunnel: Tunnel,
+    console: Console,
+}
+
+// Writes out what waits.
+fn flush(waiting: usize, out: &[u8]) {
+    if waiting <= out.len() {
+        io::write_all(STDOUT_FILENO, &out[..waiting]);
+    }
+}
+
+// Writes out what waits if a further answer might not fit, and answers how much waits then: the longest has 1,024 verdicts.
+fn make_room(waiting: usize, out: &[u8]) -> usize {
+    if waiting > 61440 {
+        flush(waiting, out);
+        return 0;
+    }
+    waiting
+}
+
+// The line that was gathered; one that is too long cannot be read.
+fn gathered_line(console: Console, line: &[u8], counters: &mut [u64], kinds: &mut [u8]) -> Line {
+    let gathered = console.gathered;
+    let length = gathered.length;
+    if gathered.long {
+        return Line::Unreadable;
+    }
+    if length > line.len() {
+        return Line::Unreadable;
+    }
+    admitted(read(&line[..length], counters, kinds), console.started)
+}
+
+// Whether a tunnel has been made once a line is answered.
+fn starts_with(started: bool, line: Line) -> bool {
+    if started {
+        return true;
+    }
+    starts(line)
+}
+
+// Puts the answer of a line.
+fn answer(
+    console: Console,
+    line: Line,
+    answer: Answer,
+    verdicts: &[u8],
+    out: &mut [u8],
+) -> Console {
+    let at = make_room(console.written, out);
+    Console {
+        started: starts_with(console.started, line),
+        gathered: Gathered::new(),
+        written: put_line(out, at, line, answer, verdicts),
+    }
+}
+
+// Puts the answer of a line's call.
+fn settle(
+    answered: Answered,
+    console: Console,
+    asked: Line,
+    verdicts: &[u8],
+    out: &mut [u8],
+) -> Progress {
+    let tunnel = answered.tunnel;
+    let reply = answered.answer;
+    let after = answer(console, asked, reply, verdicts, out);
+    Progress {
+        tunnel,
+        console: after,
+    }
+}
+
+// Makes the call of the line that was gathered, and puts its answer.
+fn end_line(
+    progress: Progress,
+    line: &[u8],
+    store: &mut [u64],
+    counters: &mut [u64],
+    kinds: &mut [u8],
+    verdicts: &mut [u8],
+    out: &mut [u8],
+) -> Progress {
+    let console = progress.console;
+    let asked = gathered_line(console, line, counters, kinds);
+    let answered = call(progress.tunnel, asked, store, counters, kinds, verdicts);
+    settle(answered, console, asked, verdicts, out)
+}
+
+// The progress with the bytes up to the next newline.
+fn gather(progress: Progress, line: &mut [u8], part: &[u8]) -> Progress {
+    let console = progress.console;
+    let before = console.gathered;
+    let after = Console {
+        gathered: before.append(line, part),
+        ..console
+    };
+    Progress {
+        console: after,
+        ..progress
+    }
+}
+
+// Answers each line that ends in a part of the input.
+fn take_part(
+    begun: Progress,
+    input: &[u8],
+    line: &mut [u8],
+    store: &mut [u64],
+    counters: &mut [u64],
+    kinds: &mut [u8],
+    verdicts: &mut [u8],
+    out: &mut [u8],
+) -> Progress {
+    let mut progress = begun;
+    let mut at = 0;
+    while at < input.len() {
+        let end = newline(input, at);
+        progress = gather(progress, line, &input[at..end]);
+        if end >= input.len() {
+            return progress;
+        }
+        progress = end_line(progress, line, store, counters, kinds, verdicts, out);
+        at = end + 1;
+    }
+    progress
+}
+
+// The progress with nothing waiting: all of it is written out.
+fn emptied(progress: Progress, out: &[u8]) -> Progress {
+    let console = progress.console;
+    flush(console.written, out);
+    let after = Console {
+        written: 0,
+        ..console
+    };
+    Progress {
+        console: after,
+        ..progress
+    }
+}
+
+// Answers the last line if it has no newline.
+fn end_input(
+    progress: Progress,
+    line: &[u8],
+    store: &mut [u64],
+    counters: &mut [u64],
+    kinds: &mut [u8],
+    verdicts: &mut [u8],
+    out: &mut [u8],
+) -> Progress {
+    let console = progress.console;
+    let gathered = console.gathered;
+    if gathered.begun() {
+        return end_line(progress, line, store, counters, kinds, verdicts, out);
+    }
+    progress
+}
+
+// Answers the lines that end in a part of the input; a part of no bytes is the input's end.
+fn take_input(
+    begun: Progress,
+    part: &[u8],
+    line: &mut [u8],
+    store: &mut [u64],
+    counters: &mut [u64],
+    kinds: &mut [u8],
+    verdicts: &mut [u8],
+    out: &mut [u8],
+) -> Progress {
+    if part.len() == 0 {
+        return end_input(begun, line, store, counters, kinds, verdicts, out);
+    }
+    take_part(begun, part, line, store, counters, kinds, verdicts, out)
+}
+
+// Reads once, and answers how many bytes came: none at the input's end.
+fn read_input(input: &mut [u8]) -> usize
+    ensures { λ r. ⌜ r ≤ length (now (input .exit)) ⌝ }
+{
+    let got = libc::read(STDIN_FILENO, input);
+    io::count(got, input)
+}
+
+// A proved loop has to end, and nothing says that the input does. So the loop counts its turns down, from a number that no run
+// uses up.
+fn take_all(
+    begun: Progress,
+    input: &mut [u8],
+    line: &mut [u8],
+    store: &mut [u64],
+    counters: &mut [u64],
+    kinds: &mut [u8],
+    verdicts: &mut [u8],
+    out: &mut [u8],
+) {
+    let mut progress = begun;
+    let mut turns = u64::MAX;
+    while turns > 0 {
+        let n = read_input(input);
+        let taken = take_input(
+            progress,
+            &input[..n],
+            line,
+            store,
+            counters,
+            kinds,
+            verdicts,
+            out,
+        );
+        progress = emptied(taken, out);
+        if n == 0 {
+            return;
+        }
+        turns = turns - 1;
+    }
+}
+
+// The progress before the first line, with a zero store.
+fn fresh(store: &mut [u64]) -> Progress {
+    let answered = Tunnel::new(store, 0, 0, 0);
+    let tunnel = answered.tunnel;
+    let console = Console {
+        started: false,
+        gathered: Gathered::new(),
+        written: 0,
+    };
+    Progress { tunnel, console }
+}
+
+fn main() {
+    let mut input = io::large_buffer();
+    let mut line = io::large_buffer();
+    let mut out = io::large_buffer();
+    let mut store = [0u64; 1024];
+    let mut counters = [0u64; 1025];
+    let mut kinds = [0u8; 1025];
+    let mut verdicts = [0u8; 1025];
+    let progress = fresh(&mut store);
+    take_all(
+        progress,
+        &mut input,
+        &mut line,
+        &mut store,
+        &mut counters,
+        &mut kinds,
+        &mut verdicts,
+        &mut out,
+    );
+}

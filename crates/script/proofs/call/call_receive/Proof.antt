@@ -1,0 +1,44 @@
+use borrow.Author.Needs.{needs}
+use Rattle.script.proofs.Parts.{counts}
+use Rattle.script.proofs.call.call_receive.Statement.{statement}
+use Rattle.script.proofs.call.call_receive.Tie as tie
+
+places-requires : tie.Need-places-requires
+places-requires c κs = search needs
+
+slice-aggregate-receive : tie.Need-slice-aggregate-receive
+slice-aggregate-receive c = search (counts, needs)
+
+slice-aggregate-receive-2 : tie.Need-slice-aggregate-receive-2
+slice-aggregate-receive-2 c = search (counts, needs)
+
+slice-relend-prefix-receive : tie.Need-slice-relend-prefix-receive
+slice-relend-prefix-receive c = search needs
+
+slice-aggregate-receive-3 : tie.Need-slice-aggregate-receive-3
+slice-aggregate-receive-3 c = search (counts, needs)
+
+receive-requires : tie.Need-receive-requires
+receive-requires c κs = search needs
+
+same-length : tie.Need-same-length
+same-length c = search needs
+
+same-length-2 : tie.Need-same-length-2
+same-length-2 c = search needs
+
+returns : tie.Need-returns
+returns c = search needs
+
+pub call-receive-spec : {M : Type 1} → statement M
+call-receive-spec = tie.close
+    (tie.spec
+    places-requires
+    slice-aggregate-receive
+    slice-aggregate-receive-2
+    slice-relend-prefix-receive
+    slice-aggregate-receive-3
+    receive-requires
+    same-length
+    same-length-2
+    returns)

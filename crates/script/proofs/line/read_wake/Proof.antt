@@ -1,0 +1,47 @@
+use borrow.Author.Needs.{needs}
+use Rattle.script.proofs.line.read_wake.Statement.{statement}
+use Rattle.script.proofs.line.read_wake.Tie as tie
+
+read-number-requires : tie.Need-read-number-requires
+read-number-requires c κs = search needs
+
+enum-known-jitter : tie.Need-enum-known-jitter
+enum-known-jitter c = search needs
+
+enum-told : tie.Need-enum-told
+enum-told c = search needs
+
+returns : tie.Need-returns
+returns c = search needs
+
+read-number-requires-2 : tie.Need-read-number-requires-2
+read-number-requires-2 c κs = search needs
+
+enum-known-time : tie.Need-enum-known-time
+enum-known-time c = search needs
+
+enum-told-2 : tie.Need-enum-told-2
+enum-told-2 c = search needs
+
+returns-2 : tie.Need-returns-2
+returns-2 c = search needs
+
+returns-3 : tie.Need-returns-3
+returns-3 c = search needs
+
+returns-4 : tie.Need-returns-4
+returns-4 c = search needs
+
+pub read-wake-spec : {M : Type 1} → statement M
+read-wake-spec = tie.close
+    (tie.spec
+    read-number-requires
+    enum-known-jitter
+    enum-told
+    returns
+    read-number-requires-2
+    enum-known-time
+    enum-told-2
+    returns-2
+    returns-3
+    returns-4)

@@ -1,0 +1,146 @@
+// Lines made into calls.
+use crate::line::HandshakeCall;
+use crate::line::Line;
+use crate::line::SessionCall;
+use tunnel::answer::Answer;
+use tunnel::tunnel::Answered;
+use tunnel::tunnel::Tunnel;
+ghost use lib.ListN.{length};
+ghost use Rattle.script.specs.Place.{Places};
+
+// Makes a call about a handshake.
+fn call_handshake(tunnel: Tunnel, call: HandshakeCall, store: &mut [u64]) -> Answered {
+    match call {
+        HandshakeCall::Init { time } => return tunnel.initiate_handshake(time),
+        HandshakeCall::Restart { time } => return tunnel.restart_handshake(time),
+        HandshakeCall::Resp {
+            receiver,
+            peer,
+            outcome,
+            time,
+        } => {
+            return tunnel.handle_handshake_response(store, receiver, peer, outcome, time);
+        }
+        HandshakeCall::Hello {
+            peer,
+            outcome,
+            time,
+        } => {
+            return tunnel.handle_handshake_initiation(store, peer, outcome, time);
+        }
+        HandshakeCall::Cookie {
+            receiver,
+            outcome,
+            time,
+        } => {
+            return tunnel.handle_cookie_reply(receiver, outcome, time);
+        }
+    }
+}
+
+// Makes a call about the sessions, the timers and the events.
+fn call_session(tunnel: Tunnel, call: SessionCall, store: &mut [u64]) -> Answered {
+    match call {
+        SessionCall::Send { count, time } => return tunnel.send(count, time),
+        SessionCall::Look {
+            index,
+            counter,
+            time,
+        } => return tunnel.look(store, index, counter, time),
+        SessionCall::Wake { jitter, time } => return tunnel.handle_timeout(store, jitter, time),
+        SessionCall::Event => return tunnel.poll_event(),
+        SessionCall::Next => return tunnel.poll_timeout(),
+        SessionCall::Missing { index } => return tunnel.missing(store, index),
+    }
+}
+
+// How many places a batch takes of each list: one for each message, and no more than there are.
+fn places(messages: usize, counters: &[u64], kinds: &[u8], verdicts: &[u8]) -> usize
+    ensures { λ r. ⌜ Places r (length (now (counters .entry))) (length (now (kinds .entry))) (length (now (verdicts .entry))) ⌝ }
+{
+    if messages > counters.len() {
+        return 0;
+    }
+    if messages > kinds.len() {
+        return 0;
+    }
+    if messages > verdicts.len() {
+        return 0;
+    }
+    messages
+}
+
+// Receives the messages that stand in the first places of the lists.
+fn call_receive(
+    tunnel: Tunnel,
+    store: &mut [u64],
+    index: u32,
+    session: u64,
+    time: u64,
+    messages: usize,
+    counters: &[u64],
+    kinds: &[u8],
+    verdicts: &mut [u8],
+) -> Answered {
+    let n = places(messages, counters, kinds, verdicts);
+    tunnel.receive(
+        store,
+        index,
+        session,
+        time,
+        &counters[..n],
+        &kinds[..n],
+        &mut verdicts[..n],
+    )
+}
+
+// Makes a line's call. A line that cannot be read is turned down, and a split asks nothing of the tunnel.
+pub fn call(
+    tunnel: Tunnel,
+    line: Line,
+    store: &mut [u64],
+    counters: &[u64],
+    kinds: &[u8],
+    verdicts: &mut [u8],
+) -> Answered {
+    match line {
+        Line::Unreadable => return Answered {
+            tunnel,
+            answer: Answer::No(2),
+        },
+        Line::New {
+            index,
+            keepalive,
+            time,
+        } => return Tunnel::new(store, index, keepalive, time),
+        Line::Handshake(call) => return call_handshake(tunnel, call, store),
+        Line::Session(call) => return call_session(tunnel, call, store),
+        Line::Recv {
+            index,
+            session,
+            time,
+            messages,
+        } => {
+            return call_receive(
+                tunnel,
+                store,
+                index,
+                session,
+                time,
+                messages,
+                counters,
+                kinds,
+                verdicts,
+            );
+        }
+        Line::Split {
+            peer: _,
+            first: _,
+            length: _,
+            at: _,
+        } => return Answered {
+            tunnel,
+            answer: Answer::Done,
+        },
+    }
+}

@@ -1,0 +1,9 @@
+// The lines of the program drive: gathered, read, made into calls, and answered in text. Functions on slices; no input or output.
+pub mod answer;
+pub mod call;
+pub mod gather;
+pub mod line;
+pub mod messages;
+pub mod name;
+pub mod text;
+pub mod word;

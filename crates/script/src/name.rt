@@ -1,0 +1,77 @@
+// The names of the calls.
+use crate::word::same;
+
+pub enum Name {
+    Unknown,
+    New,
+    Init,
+    Restart,
+    Resp,
+    Hello,
+    Cookie,
+    Send,
+    Recv,
+    Look,
+    Wake,
+    Event,
+    Next,
+    Missing,
+    Split,
+}
+
+// The name of a handshake's call.
+fn handshake_name(word: &[u8]) -> Name {
+    if same(word, b"init") {
+        return Name::Init;
+    }
+    if same(word, b"restart") {
+        return Name::Restart;
+    }
+    if same(word, b"resp") {
+        return Name::Resp;
+    }
+    if same(word, b"hello") {
+        return Name::Hello;
+    }
+    if same(word, b"cookie") {
+        return Name::Cookie;
+    }
+    Name::Unknown
+}
+
+// The name of a question, or of a handshake's call.
+fn question_name(word: &[u8]) -> Name {
+    if same(word, b"event") {
+        return Name::Event;
+    }
+    if same(word, b"next") {
+        return Name::Next;
+    }
+    if same(word, b"missing") {
+        return Name::Missing;
+    }
+    if same(word, b"split") {
+        return Name::Split;
+    }
+    handshake_name(word)
+}
+
+// The name that a word is.
+pub fn call_name(word: &[u8]) -> Name {
+    if same(word, b"recv") {
+        return Name::Recv;
+    }
+    if same(word, b"send") {
+        return Name::Send;
+    }
+    if same(word, b"look") {
+        return Name::Look;
+    }
+    if same(word, b"wake") {
+        return Name::Wake;
+    }
+    if same(word, b"new") {
+        return Name::New;
+    }
+    question_name(word)
+}
