@@ -24,7 +24,7 @@ putBytes b (byte ∷ text) = putBytes (putByte b byte) text
 pub record Puts (bytes : List ℕ) (at : ℕ) (text left : List ℕ) (end : ℕ) : Type 0 where
   pub buffer : record { bytes = left; at = end } ≡ putBytes (record { bytes = bytes; at = at }) text
 
--- Where there is room, the text stands in the buffer from the position on, and the rest is as it was.
+-- Where there is room, the text stands in the buffer from the position on.
 pub record Stands : Type 0 where
   pub end : (bytes : List ℕ) (at : ℕ) (text : List ℕ) → at + length text ≤ length bytes
       → putBytes (record { bytes = bytes; at = at }) text .at ≡ at + length text
