@@ -1,0 +1,65 @@
+use borrow.Author.Needs.{needs}
+use Prim.Native.Nat.{_-_, _≤_}
+use Rattle.damage_cases.proofs.arguments.stores.Statement.{statement}
+use Rattle.damage_cases.proofs.arguments.stores.Tie as tie
+
+abbrev Inv-loop : tie.InvT-loop
+Inv-loop tunnel tally₀ call₀ tally call = call ≤ 12
+
+abbrev μ-loop : tie.MeasureT-loop
+μ-loop tunnel tally₀ call₀ tally call = 12 - call
+
+no-cases-requires : tie.Need-no-cases-requires Inv-loop μ-loop
+no-cases-requires c κs = tt
+
+loop-holds : tie.Need-loop-holds Inv-loop μ-loop
+loop-holds c = search needs
+
+store-case-requires : tie.Need-store-case-requires Inv-loop μ-loop
+store-case-requires c κs = tt
+
+plus-requires : tie.Need-plus-requires Inv-loop μ-loop
+plus-requires c κs = tt
+
+store-case-requires-2 : tie.Need-store-case-requires-2 Inv-loop μ-loop
+store-case-requires-2 c κs = tt
+
+plus-requires-2 : tie.Need-plus-requires-2 Inv-loop μ-loop
+plus-requires-2 c κs = tt
+
+store-case-requires-3 : tie.Need-store-case-requires-3 Inv-loop μ-loop
+store-case-requires-3 c κs = tt
+
+plus-requires-3 : tie.Need-plus-requires-3 Inv-loop μ-loop
+plus-requires-3 c κs = tt
+
+add-call : tie.Need-add-call Inv-loop μ-loop
+add-call c = search needs
+
+loop-less : tie.Need-loop-less Inv-loop μ-loop
+loop-less c = search needs
+
+loop-again : tie.Need-loop-again Inv-loop μ-loop
+loop-again c = search needs
+
+returns : tie.Need-returns Inv-loop μ-loop
+returns c = tt
+
+pub stores-spec : {M : Type 1} → statement M
+stores-spec =
+    tie.close
+    (tie.spec
+    Inv-loop
+    μ-loop
+    no-cases-requires
+    loop-holds
+    store-case-requires
+    plus-requires
+    store-case-requires-2
+    plus-requires-2
+    store-case-requires-3
+    plus-requires-3
+    add-call
+    loop-less
+    loop-again
+    returns)

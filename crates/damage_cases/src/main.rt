@@ -1,0 +1,28 @@
+// Damaged tunnels and arguments out of range: a damaged tunnel for each clause of number 14, and each call with it; stores and lists
+// of wrong length; what number 14 does not look at; and the order of the checks. A call that is turned down must hand everything
+// back as it came: the tunnel is compared field by field, the store and the verdicts element by element. Lists that are lent for
+// reading only cannot change.
+mod arguments;
+mod clauses;
+mod creation;
+mod damage;
+mod order;
+mod request;
+mod same;
+mod sound;
+mod tally;
+mod unlooked;
+
+use crate::arguments::argument_groups;
+use crate::clauses::clause_groups;
+use crate::creation::creation_groups;
+use crate::order::order_groups;
+use crate::sound::sound;
+
+fn main() {
+    let tunnel = sound();
+    clause_groups(tunnel);
+    argument_groups(tunnel);
+    order_groups(tunnel);
+    creation_groups();
+}
