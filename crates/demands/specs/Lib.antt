@@ -1,2 +1,6 @@
 pub mod Calls
+pub mod Made
 pub mod Marked
+pub mod Missing
+pub mod Receiving
+pub mod Sending

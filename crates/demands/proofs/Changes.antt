@@ -1,0 +1,268 @@
+-- The ways in which one slot changes keep what is known of all: its session is marked or grants counters, a batch is judged there, a session is
+-- inserted there.
+-- Assumes nothing.
+use mathlib.Core.Path.{_≡_, refl, ap, sym, _∙_}
+use mathlib.Core.Bool.{Bool, true, false}
+use mathlib.Core.List.{List, [], _∷_, _++_}
+use Prim.Native.Nat.{ℕ, _+_, _%_, _^_, _≤_, _<_}
+use native.Mathlib.Decide.{ℕ-discrete}
+use native.Mathlib.Omega.{arith}
+use lib.Dec.{eqb}
+use lib.ListN.{length, length-set}
+use borrow.Author.Tests.{eq-eqb, ne-eqb, eqb-true}
+use Rattle.base.specs.Choice.{choose}
+use Rattle.demands.proofs.Held.{
+  from-on,
+  counters-on,
+  counters-own,
+  counters-other,
+  append-nothing,
+  Runs,
+  SlotHeld,
+  Held,
+  Changed,
+  held-changed,
+}
+use Rattle.demands.proofs.Moves.{InSlot, received-slot, put-at, changed-put}
+use Rattle.demands.specs.Sending.{Grant, granting, upFrom, countersOf}
+use Rattle.sessions.proofs.Apart.{length-zeros, length-put}
+use Rattle.sessions.proofs.Judged.{batch-law, fresh-law}
+use Rattle.sessions.proofs.Received.{length-batch, progress-index, slots-apart}
+use Rattle.sessions.proofs.Words.{slot-long}
+use Rattle.sessions.specs.Batch.{Outcome, receivingSession, batchOf, withProgress, receive, commit, committedTo, answered, fits}
+use Rattle.sessions.specs.History.{recordedAll, Call, Live, BatchLaw}
+use Rattle.sessions.specs.Index.{slotIn}
+use Rattle.sessions.specs.Laws.{Kept}
+use Rattle.sessions.specs.Session.{withId}
+use Rattle.sessions.specs.Sessions.{caseFound, slotAt, put, inserting, insert}
+use Rattle.sessions.specs.Store.{slotOf, putSlot, zeros, whole}
+use Rattle.sessions.specs.declared.batch.Progress.{Progress}
+use Rattle.sessions.specs.declared.session.Session.{Session}
+use Rattle.sessions.specs.declared.sessions.Found.the-variants.{Got}
+use Rattle.sessions.specs.declared.sessions.Sessions.{Sessions}
+use Rattle.tunnel.proofs.Steps.{of-choice}
+use Rattle.window.specs.Window.{limit}
+
+-- two changes of one slot
+pub changed-on : (s t u : Sessions) (store mid left : List ℕ) (j : ℕ) → Changed s t store mid j → Changed t u mid left j → Changed s u store left j
+changed-on s t u store mid left j a b =
+    record {
+      eight = b .eight ∙ a .eight;
+      size = b .size ∙ a .size;
+      others = λ k low d. (b .others k low d .0 ∙ a .others k low d .0, b .others k low d .1 ∙ a .others k low d .1);
+    }
+
+-- what is known of a slot's record is known of one that is the same
+of-same : (n : ℕ) (h : ℕ → List ℕ) (g : List Grant) (j : ℕ) (words : List ℕ) (z x : Session) → z ≡ x → SlotHeld n h g j z words → SlotHeld n h g j x words
+of-same n h g j words z x e o = rw (← e) o
+
+-- a session that has the identity of another: its id, its index and its window's next
+pub record Alike (x y : Session) : Type 0 where
+  pub id : y .id ≡ x .id
+  pub index : y .«receiving_index» ≡ x .«receiving_index»
+  pub next : y .next ≡ x .next
+
+module _ (n : ℕ) (h : ℕ → List ℕ) (g : List Grant) (s last : Sessions) (store : List ℕ) (w : Held n h g s store) (x y : Session)
+    (found : InSlot s (x .«receiving_index») x) (same : Alike x y) where
+  abbrev j : ℕ
+  j = slotIn (x .«receiving_index»)
+
+  filled-slot : slotAt s j .filled ≡ true
+  filled-slot = ap (λ (z : Session). z .filled) (found .stored) ∙ found .filled
+
+  own-slot : SlotHeld n h g j x (slotOf store j)
+  own-slot = of-same n h g j (slotOf store j) (slotAt s j) x (found .stored) (w .slots j (omega arith) filled-slot)
+
+  module _ (c : Changed s last store store j) (there : slotAt last j ≡ y) (count : last .inserted ≡ s .inserted) (below : y .«sending_key_counter» ≤ limit) where
+    -- grants that give this session its counters up to where its send counter stands
+    pub held-counted : (f : List Grant) → ((id : ℕ) → (id ≡ x .id → ⊥) → countersOf id f ≡ countersOf id g)
+        → countersOf (x .id) f ≡ upFrom 0 (y .«sending_key_counter») → Held n h f last store
+    held-counted f others own =
+        let id : slotAt last j .id ≡ x .id = ap (λ (z : Session). z .id) there ∙ same .id in
+        let mine : SlotHeld n h f j y (slotOf store j) =
+        record {
+          placed = ap slotIn (same .index);
+          named = rw (same .id) (own-slot .named);
+          stands = rw (same .id, same .next) (own-slot .stands);
+          granted = ap (λ (i : ℕ). countersOf i f) (same .id) ∙ own;
+        } in
+        held-changed n n h h g f s last store store j w c (omega arith) (count ∙ w .count) (rw there mine)
+        (λ k low d q p. d (w .apart k j low (omega arith) q filled-slot (p ∙ id ∙ ap (λ (z : Session). z .id) (sym (found .stored)))))
+        (λ i d. refl) (λ i d. others i (λ p. d (p ∙ sym id)))
+        (record { count = y .«sending_key_counter»; are = ap (λ (i : ℕ). countersOf i f) id ∙ own; below = below })
+
+    -- nothing granted
+    pub held-marked : y .«sending_key_counter» ≡ x .«sending_key_counter» → Held n h g last store
+    held-marked e = held-counted g (λ i d. refl) (own-slot .granted ∙ ap (λ (i : ℕ). upFrom 0 i) (sym e))
+
+    -- so many counters granted
+    pub held-granted : (peer len : ℕ) → y .«sending_key_counter» ≡ x .«sending_key_counter» + len
+        → Held n h (g ++ granting (x .id) peer (x .«sending_key_counter») len ∷ []) last store
+    held-granted peer len e =
+        let start : 0 + x .«sending_key_counter» ≡ x .«sending_key_counter» = omega arith in
+        held-counted _
+        (λ i d. counters-on i g _ ∙ ap (λ (l : List ℕ). countersOf i g ++ l) (counters-other i (x .id) peer _ len (λ p. d (sym p))) ∙ append-nothing _)
+        (counters-on (x .id) g _ ∙ ap (λ (l : List ℕ). l ++ countersOf (x .id) (granting (x .id) peer (x .«sending_key_counter») len ∷ [])) (own-slot .granted)
+        ∙ ap (λ (l : List ℕ). upFrom 0 (x .«sending_key_counter») ++ l) (counters-own (x .id) peer (x .«sending_key_counter») len)
+        ∙ ap (λ (i : ℕ). upFrom 0 (x .«sending_key_counter») ++ upFrom i len) (sym start)
+        ∙ from-on 0 (x .«sending_key_counter») len ∙ ap (λ (i : ℕ). upFrom 0 i) (sym e))
+
+-- a session inserted
+module _ (n : ℕ) (h : ℕ → List ℕ) (g : List Grant) (s : Sessions) (store : List ℕ) (w : Held n h g s store) (x : Session)
+    (filled : x .filled ≡ true) (next : x .next ≡ 0) (counter : x .«sending_key_counter» ≡ 0) (few : n + 1 < 2 ^ 64) where
+  abbrev slot : ℕ
+  slot = slotIn (x .«receiving_index»)
+
+  stored : insert s store x .store ≡ putSlot store slot (zeros 128)
+  unfolding insert choose
+  stored = rw (eq-eqb (length store) 1024 (w .size))
+
+  inserted : insert s store x .sessions ≡ inserting s x
+  unfolding insert choose
+  inserted = rw (eq-eqb (length store) 1024 (w .size))
+
+  slots-of : inserting s x .slots ≡ put s (withId x (s .inserted)) .slots
+  unfolding inserting
+  slots-of = refl
+
+  pub inserted-at : slotAt (insert s store x .sessions) slot ≡ withId x (s .inserted)
+  unfolding inserting
+  inserted-at = rw inserted (put-at s (withId x (s .inserted)) store (w .eight))
+
+  count-more : insert s store x .sessions .inserted ≡ n + 1
+  unfolding inserting
+  count-more = let e : (s .inserted + 1) % 2 ^ 64 ≡ n + 1 = omega (arith, w .count) in rw inserted e
+
+  long : length (insert s store x .sessions .slots) ≡ length (s .slots)
+  unfolding inserting put
+  long = rw inserted (length-set (s .slots) slot (withId x (s .inserted)))
+
+  none-yet : [] ≡ upFrom 0 0
+  unfolding upFrom
+  none-yet = refl
+
+  pub held-inserted : Held (n + 1) h g (insert s store x .sessions) (insert s store x .store)
+  held-inserted =
+      let id : slotAt (insert s store x .sessions) slot .id ≡ n = ap (λ (z : Session). z .id) inserted-at ∙ w .count in
+      held-changed n (n + 1) h h g g s (insert s store x .sessions) store (insert s store x .store) slot w
+      (record {
+        eight = long;
+        size = ap length stored ∙ length-put store (zeros 128) slot (w .size) (omega arith) (length-zeros 128) ∙ sym (w .size);
+        others = λ k low d. (let y : Kept s _ store _ k = slots-apart s store k .insertion x d in (y .session, y .words));
+      })
+      (omega arith)
+      count-more
+      (record {
+        placed = ap (λ (z : Session). slotIn (z .«receiving_index»)) inserted-at;
+        named = rw id (omega arith);
+        stands = rw (id, w .unborn n (omega arith)) (fresh-law s store x (w .eight) (w .size) next .stands);
+        granted = ap (λ (i : ℕ). countersOf i g) id ∙ w .ungranted n (omega arith) ∙ none-yet ∙ ap (λ (i : ℕ). upFrom 0 i) (sym (ap (λ (z : Session). z .«sending_key_counter») inserted-at ∙ counter));
+      })
+      (λ k low d q p. let l : slotAt s k .id < n = w .slots k low q .named in omega (arith, l, p ∙ id))
+      (λ i d. refl)
+      (λ i d. refl)
+      (w .runs _)
+
+-- a batch judged
+module _ (n : ℕ) (h : ℕ → List ℕ) (g : List Grant) (s : Sessions) (store : List ℕ) (w : Held n h g s store) (index id now : ℕ)
+    (counters kinds verdicts : List ℕ) (x : Session) (fit : fits counters kinds verdicts ≡ true) (found : receivingSession s index id now ≡ Got x) where
+  abbrev call : Call
+  call = record { sessions = s; store = store; index = index; id = id; now = now; counters = counters; kinds = kinds; verdicts = verdicts }
+
+  abbrev out : Outcome
+  out = receive s store index id now counters kinds verdicts
+
+  goes : out ≡ committedTo s store x (batchOf store x counters kinds)
+  unfolding receive commit caseFound choose
+  goes = rw (eq-eqb (length store) 1024 (w .size), fit, found)
+
+  in-slot : InSlot s index x
+  in-slot = received-slot s index id now x found .0
+
+  named : x .id ≡ id
+  named = received-slot s index id now x found .1
+
+  abbrev at : ℕ
+  at = slotIn index
+
+  filled-at : slotAt s at .filled ≡ true
+  filled-at = ap (λ (z : Session). z .filled) (in-slot .stored) ∙ in-slot .filled
+
+  own : SlotHeld n h g at x (slotOf store at)
+  own = of-same n h g at (slotOf store at) (slotAt s at) x (in-slot .stored) (w .slots at (omega arith) filled-at)
+
+  live : Live call x (h id)
+  live =
+      record {
+        eight = w .eight;
+        size = w .size;
+        batch = fit;
+        found = found;
+        stands = rw (in-slot .stored, ← named) (own .stands);
+      }
+
+  pub batch-judged : BatchLaw call (h id)
+  batch-judged = batch-law call x (h id) live
+
+  abbrev left : Session
+  left = withProgress x (batchOf store x counters kinds .progress)
+
+  left-id : left .id ≡ x .id
+  unfolding withProgress
+  left-id = of-choice (λ (y : Session). y .id ≡ x .id) _ _ _ refl refl
+
+  left-counter : left .«sending_key_counter» ≡ x .«sending_key_counter»
+  unfolding withProgress
+  left-counter = of-choice (λ (y : Session). y .«sending_key_counter» ≡ x .«sending_key_counter») _ _ _ refl refl
+
+  left-index : left .«receiving_index» ≡ index
+  left-index = progress-index x _ ∙ in-slot .named
+
+  sessions-are : out .received .sessions ≡ put s left
+  unfolding answered
+  sessions-are = ap (λ (o : Outcome). o .received .sessions) goes
+
+  store-is : out .store ≡ putSlot store (slotIn (x .«receiving_index»)) (batchOf store x counters kinds .words)
+  store-is = ap (λ (o : Outcome). o .store) goes
+
+  left-at : slotAt (out .received .sessions) at ≡ left
+  left-at =
+      ap (λ (t : Sessions). slotAt t at) sessions-are ∙ ap (λ (i : ℕ). slotAt (put s left) (slotIn i)) (sym left-index) ∙ put-at s left store (w .eight)
+
+  inserted-same : out .received .sessions .inserted ≡ s .inserted
+  unfolding put
+  inserted-same = ap (λ (t : Sessions). t .inserted) sessions-are
+
+  eight-left : length (out .received .sessions .slots) ≡ length (s .slots)
+  eight-left = ap (λ (t : Sessions). length (t .slots)) sessions-are ∙ changed-put s left store (w .eight) .eight
+
+  size-left : length (out .store) ≡ length store
+  size-left =
+      ap length store-is
+      ∙ length-put store _ (slotIn (x .«receiving_index»)) (w .size) (omega arith)
+      (length-batch _ _ counters kinds ∙ slot-long store (slotIn (x .«receiving_index»)) (w .size) (omega arith))
+      ∙ sym (w .size)
+
+  module _ (i : ℕ → List ℕ) (mine : i id ≡ recordedAll (h id) counters (out .verdicts)) (others : (y : ℕ) → (y ≡ id → ⊥) → i y ≡ h y) where
+    pub held-judged : Held n i g (out .received .sessions) (out .store)
+    held-judged =
+        let is : slotAt (out .received .sessions) at .id ≡ id = ap (λ (z : Session). z .id) left-at ∙ left-id ∙ named in
+        held-changed n n h i g g s (out .received .sessions) store (out .store) at w
+        (record {
+          eight = eight-left;
+          size = size-left;
+          others = λ k low d. (let y : Kept s _ store _ k = slots-apart s store k .batch index id now counters kinds verdicts d in (y .session, y .words));
+        })
+        (omega arith)
+        (inserted-same ∙ w .count)
+        (record {
+          placed = ap (λ (z : Session). slotIn (z .«receiving_index»)) left-at ∙ ap slotIn left-index;
+          named = rw (is, ← named) (own .named);
+          stands = rw (is, mine) (batch-judged .stands);
+          granted = ap (λ (k : ℕ). countersOf k g) (is ∙ sym named) ∙ own .granted
+              ∙ ap (λ (k : ℕ). upFrom 0 k) (sym (ap (λ (z : Session). z .«sending_key_counter») left-at ∙ left-counter));
+        })
+        (λ k low d q p. d (w .apart k at low (omega arith) q filled-at (p ∙ is ∙ sym named ∙ ap (λ (z : Session). z .id) (sym (in-slot .stored)))))
+        (λ y d. others y (λ q. d (q ∙ sym is)))
+        (λ y d. refl)
+        (w .runs _)

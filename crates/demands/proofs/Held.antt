@@ -1,0 +1,213 @@
+-- What is known of the sessions and the store after any calls: each filled slot stands for its session's history and grants, and sessions are
+-- told apart by id.
+-- Assumes nothing.
+use mathlib.Core.Path.{_≡_, refl, ap, sym, _∙_}
+use mathlib.Core.Bool.{Bool, true, false}
+use mathlib.Core.List.{List, [], _∷_, _++_, append-assoc}
+use Prim.Native.Nat.{ℕ, zero, suc, _+_, _≤_, _<_}
+use native.Mathlib.Decide.{ℕ-discrete}
+use native.Mathlib.Omega.{arith}
+use lib.Dec.{eqb}
+use lib.ListN.{length}
+use borrow.Author.Tests.{eq-eqb, ne-eqb}
+use Rattle.base.specs.Choice.{choose}
+use Rattle.demands.specs.Sending.{Grant, granting, upFrom, countersOf}
+use Rattle.sessions.specs.Index.{slotIn}
+use Rattle.sessions.specs.Sessions.{slotAt}
+use Rattle.sessions.specs.Store.{slotOf}
+use Rattle.sessions.specs.declared.session.Session.{Session}
+use Rattle.sessions.specs.declared.sessions.Sessions.{Sessions}
+use Rattle.window.specs.History.{Represents}
+use Rattle.window.specs.Window.{limit}
+
+-- numbers from one on, and those that go on from there
+pub from-on : (a m n : ℕ) → upFrom a m ++ upFrom (a + m) n ≡ upFrom a (m + n)
+unfolding upFrom
+from-on a zero n =
+    let here : a + 0 ≡ a = omega arith in
+    let all : n ≡ 0 + n = omega arith in
+    ap (λ (x : ℕ). upFrom x n) here ∙ ap (λ (x : ℕ). upFrom a x) all
+from-on a (suc m) n =
+    let here : a + suc m ≡ suc a + m = omega arith in
+    let all : suc (m + n) ≡ suc m + n = omega arith in
+    ap (λ (l : List ℕ). a ∷ l) (ap (λ (x : ℕ). upFrom (suc a) m ++ upFrom x n) here ∙ from-on (suc a) m n) ∙ ap (λ (x : ℕ). upFrom a x) all
+
+pub long-from : (a n : ℕ) → length (upFrom a n) ≡ n
+unfolding upFrom
+long-from a zero = refl
+long-from a (suc n) = ap suc (long-from (suc a) n)
+
+-- the counters of grants, and of those that follow
+pub counters-on : (id : ℕ) (g h : List Grant) → countersOf id (g ++ h) ≡ countersOf id g ++ countersOf id h
+unfolding countersOf
+counters-on id [] h = refl
+counters-on id (x ∷ g) h =
+    ap (λ (l : List ℕ). choose (eqb (x .id) id) (upFrom (x .first) (x .length)) [] ++ l) (counters-on id g h)
+    ∙ sym (append-assoc (choose (eqb (x .id) id) (upFrom (x .first) (x .length)) []) (countersOf id g) (countersOf id h))
+
+pub append-nothing : (l : List ℕ) → l ++ [] ≡ l
+append-nothing [] = refl
+append-nothing (x ∷ l) = ap (λ (r : List ℕ). x ∷ r) (append-nothing l)
+
+pub counters-own : (id peer first n : ℕ) → countersOf id (granting id peer first n ∷ []) ≡ upFrom first n
+unfolding countersOf choose
+counters-own id peer first n = rw (eq-eqb id id refl) (append-nothing (upFrom first n))
+
+pub counters-other : (id own peer first n : ℕ) → (own ≡ id → ⊥) → countersOf id (granting own peer first n ∷ []) ≡ []
+unfolding countersOf choose
+counters-other id own peer first n d = rw (ne-eqb own id d)
+
+-- counters 0, 1, 2 on, all below LIMIT
+pub record Runs (counters : List ℕ) : Type 0 where
+  pub count : ℕ
+  pub are : counters ≡ upFrom 0 count
+  pub below : count ≤ limit
+
+-- a filled slot's record and words, with the histories and the grants of all sessions
+pub record SlotHeld (n : ℕ) (h : ℕ → List ℕ) (g : List Grant) (slot : ℕ) (x : Session) (words : List ℕ) : Type 0 where
+  pub placed : slotIn (x .«receiving_index») ≡ slot
+  pub named : x .id < n
+  pub stands : Represents (h (x .id)) words (x .next)
+  pub granted : countersOf (x .id) g ≡ upFrom 0 (x .«sending_key_counter»)
+
+-- sessions and a store after n insertions
+pub record Held (n : ℕ) (h : ℕ → List ℕ) (g : List Grant) (s : Sessions) (store : List ℕ) : Type 0 where
+  pub eight : length (s .slots) ≡ 8
+  pub size : length store ≡ 1024
+  pub count : s .inserted ≡ n
+  pub slots : (k : ℕ) → k < 8 → slotAt s k .filled ≡ true → SlotHeld n h g k (slotAt s k) (slotOf store k)
+  pub apart : (j k : ℕ) → j < 8 → k < 8 → slotAt s j .filled ≡ true → slotAt s k .filled ≡ true → slotAt s j .id ≡ slotAt s k .id → j ≡ k
+  pub unborn : (id : ℕ) → n ≤ id → h id ≡ []
+  pub ungranted : (id : ℕ) → n ≤ id → countersOf id g ≡ []
+  pub runs : (id : ℕ) → Runs (countersOf id g)
+
+-- sessions and a store of which every slot that is filled then was so before
+pub record Carried (s last : Sessions) (store left : List ℕ) : Type 0 where
+  pub eight : length (last .slots) ≡ length (s .slots)
+  pub size : length left ≡ length store
+  pub count : last .inserted ≡ s .inserted
+  pub slots : (k : ℕ) → k < 8 → slotAt last k .filled ≡ true → (slotAt last k ≡ slotAt s k) × (slotOf left k ≡ slotOf store k)
+
+pub carried-same : (s : Sessions) (store : List ℕ) → Carried s s store store
+carried-same s store = record { eight = refl; size = refl; count = refl; slots = λ k low f. (refl, refl) }
+
+pub carried-on : (s t u : Sessions) (store mid left : List ℕ) → Carried s t store mid → Carried t u mid left → Carried s u store left
+carried-on s t u store mid left a b =
+    record {
+      eight = b .eight ∙ a .eight;
+      size = b .size ∙ a .size;
+      count = b .count ∙ a .count;
+      slots = λ k low f.
+          let p : (slotAt u k ≡ slotAt t k) × (slotOf left k ≡ slotOf mid k) = b .slots k low f in
+          let q : (slotAt t k ≡ slotAt s k) × (slotOf mid k ≡ slotOf store k) =
+          a .slots k low (ap (λ (x : Session). x .filled) (sym (p .0)) ∙ f) in
+          (p .0 ∙ q .0, p .1 ∙ q .1);
+    }
+
+module _ (n : ℕ) (h : ℕ → List ℕ) (g : List Grant) (s last : Sessions) (store left : List ℕ) (w : Held n h g s store) where
+  was-filled : (k : ℕ) → (slotAt last k ≡ slotAt s k) × (slotOf left k ≡ slotOf store k) → slotAt last k .filled ≡ true → slotAt s k .filled ≡ true
+  was-filled k p f = ap (λ (x : Session). x .filled) (sym (p .0)) ∙ f
+
+  pub held-carried : Carried s last store left → Held n h g last left
+  held-carried c =
+      record {
+        eight = c .eight ∙ w .eight;
+        size = c .size ∙ w .size;
+        count = c .count ∙ w .count;
+        slots = λ k low f.
+            let p : (slotAt last k ≡ slotAt s k) × (slotOf left k ≡ slotOf store k) = c .slots k low f in
+            rw (p .0, p .1) (w .slots k low (was-filled k p f));
+        apart = λ j k a b e f q.
+            let p : (slotAt last j ≡ slotAt s j) × (slotOf left j ≡ slotOf store j) = c .slots j a e in
+            let r : (slotAt last k ≡ slotAt s k) × (slotOf left k ≡ slotOf store k) = c .slots k b f in
+            w .apart j k a b (was-filled j p e) (was-filled k r f)
+            (ap (λ (x : Session). x .id) (sym (p .0)) ∙ q ∙ ap (λ (x : Session). x .id) (r .0));
+        unborn = w .unborn;
+        ungranted = w .ungranted;
+        runs = w .runs;
+      }
+
+-- sessions and a store of which one slot changed
+pub record Changed (s last : Sessions) (store left : List ℕ) (slot : ℕ) : Type 0 where
+  pub eight : length (last .slots) ≡ length (s .slots)
+  pub size : length left ≡ length store
+  pub others : (k : ℕ) → k < 8 → (k ≡ slot → ⊥) → (slotAt last k ≡ slotAt s k) × (slotOf left k ≡ slotOf store k)
+
+-- one slot changed: what is to be known of it and of its session
+module _ (n m : ℕ) (h i : ℕ → List ℕ) (g f : List Grant) (s last : Sessions) (store left : List ℕ) (j : ℕ) (w : Held n h g s store)
+    (c : Changed s last store left j) where
+  abbrev id : ℕ
+  id = slotAt last j .id
+
+  module _ (more : n ≤ m) (count : last .inserted ≡ m) (mine : SlotHeld m i f j (slotAt last j) (slotOf left j))
+      (distinct : (k : ℕ) → k < 8 → (k ≡ j → ⊥) → slotAt s k .filled ≡ true → slotAt s k .id ≡ id → ⊥)
+      (histories : (x : ℕ) → (x ≡ id → ⊥) → i x ≡ h x) (grants : (x : ℕ) → (x ≡ id → ⊥) → countersOf x f ≡ countersOf x g)
+      (run : Runs (countersOf id f)) where
+    other-slot : (k : ℕ) → k < 8 → (k ≡ j → ⊥) → slotAt last k .filled ≡ true → SlotHeld m i f k (slotAt last k) (slotOf left k)
+    other-slot k low d e =
+        let p : (slotAt last k ≡ slotAt s k) × (slotOf left k ≡ slotOf store k) = c .others k low d in
+        let e' : slotAt s k .filled ≡ true = ap (λ (x : Session). x .filled) (sym (p .0)) ∙ e in
+        let y : SlotHeld n h g k (slotAt s k) (slotOf store k) = w .slots k low e' in
+        let z : slotAt s k .id ≡ id → ⊥ = distinct k low d e' in
+        rw (p .0, p .1)
+        (record {
+          placed = y .placed;
+          named = omega (arith, y .named);
+          stands = rw (histories (slotAt s k .id) z) (y .stands);
+          granted = grants (slotAt s k .id) z ∙ y .granted;
+        })
+
+    each-slot : (k : ℕ) → k < 8 → slotAt last k .filled ≡ true → SlotHeld m i f k (slotAt last k) (slotOf left k)
+    each-slot k low e = elim (ℕ-discrete k j) [
+      | yes q ↦ rw q mine
+      | no q ↦ other-slot k low q e
+    ]
+
+    -- another filled slot has another id
+    differs : (k : ℕ) → k < 8 → (k ≡ j → ⊥) → slotAt last k .filled ≡ true → slotAt last k .id ≡ id → ⊥
+    differs k low d e q =
+        let p : (slotAt last k ≡ slotAt s k) × (slotOf left k ≡ slotOf store k) = c .others k low d in
+        distinct k low d (ap (λ (x : Session). x .filled) (sym (p .0)) ∙ e) (ap (λ (x : Session). x .id) (sym (p .0)) ∙ q)
+
+    both-others : (a b : ℕ) → a < 8 → b < 8 → (a ≡ j → ⊥) → (b ≡ j → ⊥) → slotAt last a .filled ≡ true → slotAt last b .filled ≡ true
+        → slotAt last a .id ≡ slotAt last b .id → a ≡ b
+    both-others a b la lb da db ea eb q =
+        let p : (slotAt last a ≡ slotAt s a) × (slotOf left a ≡ slotOf store a) = c .others a la da in
+        let r : (slotAt last b ≡ slotAt s b) × (slotOf left b ≡ slotOf store b) = c .others b lb db in
+        w .apart a b la lb (ap (λ (x : Session). x .filled) (sym (p .0)) ∙ ea) (ap (λ (x : Session). x .filled) (sym (r .0)) ∙ eb)
+        (ap (λ (x : Session). x .id) (sym (p .0)) ∙ q ∙ ap (λ (x : Session). x .id) (r .0))
+
+    each-apart : (a b : ℕ) → a < 8 → b < 8 → slotAt last a .filled ≡ true → slotAt last b .filled ≡ true
+        → slotAt last a .id ≡ slotAt last b .id → a ≡ b
+    each-apart a b la lb ea eb q = elim (ℕ-discrete a j) [
+      | yes u ↦ elim (ℕ-discrete b j) [
+        | yes v ↦ u ∙ sym v
+        | no v ↦ absurd (differs b lb v eb (sym q ∙ ap (λ (k : ℕ). slotAt last k .id) u))
+      ]
+      | no u ↦ elim (ℕ-discrete b j) [
+        | yes v ↦ absurd (differs a la u ea (q ∙ ap (λ (k : ℕ). slotAt last k .id) v))
+        | no v ↦ both-others a b la lb u v ea eb q
+      ]
+    ]
+
+    each-run : (x : ℕ) → Runs (countersOf x f)
+    each-run x = elim (ℕ-discrete x id) [
+      | yes q ↦ rw q run
+      | no q ↦ rw (grants x q) (w .runs x)
+    ]
+
+    above : (x : ℕ) → m ≤ x → x ≡ id → ⊥
+    above x l q = omega (arith, q, mine .named)
+
+    pub held-changed : Held m i f last left
+    held-changed =
+        record {
+          eight = c .eight ∙ w .eight;
+          size = c .size ∙ w .size;
+          count = count;
+          slots = each-slot;
+          apart = each-apart;
+          unborn = λ x l. histories x (above x l) ∙ w .unborn x (omega arith);
+          ungranted = λ x l. grants x (above x l) ∙ w .ungranted x (omega arith);
+          runs = each-run;
+        }

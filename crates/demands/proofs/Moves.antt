@@ -1,0 +1,273 @@
+-- What the steps of the sessions do to the slots: allocate, select, discard, mark, count, judge and insert.
+-- Assumes nothing.
+use mathlib.Core.Path.{_≡_, refl, ap, sym, _∙_}
+use mathlib.Core.Bool.{Bool, true, false}
+use mathlib.Core.List.{List, [], _∷_}
+use Prim.Native.Nat.{ℕ, zero, suc, _+_, _%_, _^_, _≤_, _<_}
+use native.Mathlib.Decide.{ℕ-discrete}
+use native.Mathlib.Omega.{arith}
+use lib.Dec.{eqb}
+use lib.ListN.{length, getD, set, length-set, getD-replicate, length-replicate}
+use lib.Seq.{getD-set-same, getD-set-other}
+use borrow.Author.Tests.{eqb-true}
+use Rattle.base.specs.Choice.{choose}
+use Rattle.demands.proofs.Held.{Carried, carried-same, carried-on, Changed}
+use Rattle.sessions.proofs.Apart.{length-zeros, length-put, kept-other}
+use Rattle.sessions.specs.Batch.{receivingSession}
+use Rattle.sessions.specs.Index.{slotIn}
+use Rattle.sessions.specs.Laws.{Kept}
+use Rattle.sessions.specs.Session.{emptySession, newSession, expiredAt}
+use Rattle.sessions.specs.Sessions.{
+  caseFound,
+  caseSelected,
+  slotAt,
+  withSlots,
+  emptySlots,
+  Held,
+  inSlotOf,
+  get,
+  put,
+  currentOf,
+  nextIndex,
+  isIndex,
+  select,
+  setCurrent,
+  clear,
+  emptied,
+  expiredSlot,
+  Expiring,
+  discard,
+  expireSlot,
+  expireFirst,
+  expire,
+  inserting,
+  insert,
+}
+use Rattle.sessions.specs.Store.{slotOf, putSlot, zeros, whole}
+use Rattle.sessions.specs.declared.session.Session.{Session}
+use Rattle.sessions.specs.declared.sessions.Expired.{Expired}
+use Rattle.sessions.specs.declared.sessions.Found.{Found}
+use Rattle.sessions.specs.declared.sessions.Found.the-variants.{Nothing, Got}
+use Rattle.sessions.specs.declared.sessions.Selected.{Selected}
+use Rattle.sessions.specs.declared.sessions.Selected.the-variants.{Unset, Index}
+use Rattle.sessions.specs.declared.sessions.Sessions.{Sessions}
+use Rattle.tunnel.proofs.Steps.{of-choice, of-found}
+
+-- the same slots, whatever the current session and the index allocated last
+pub carried-slots : (s last : Sessions) (store : List ℕ) → last .slots ≡ s .slots → last .inserted ≡ s .inserted → Carried s last store store
+carried-slots s last store e i =
+    record {
+      eight = ap length e;
+      size = refl;
+      count = i;
+      slots = λ k low f. (ap (λ (l : List Session). getD l k emptySession) e, refl);
+    }
+
+-- an index allocated
+pub carried-next : (s : Sessions) (store : List ℕ) → Carried s (nextIndex s .sessions) store store
+unfolding nextIndex
+carried-next s store = carried-slots s _ store refl refl
+
+-- a session selected
+module _ (s : Sessions) (store : List ℕ) (index : ℕ) where
+  selected : Carried s (select s index) store store
+  unfolding select
+  selected = carried-slots s _ store refl refl
+
+  pub carried-current : Carried s (setCurrent s index) store store
+  unfolding setCurrent
+  carried-current =
+      of-choice (λ (t : Sessions). Carried s t store store) _ _ _ (carried-same s store)
+      (of-found (λ (t : Sessions). Carried s t store store) _ _ _ (carried-same s store)
+      (λ fresh. of-found (λ (t : Sessions). Carried s t store store) _ _ _ selected
+      (λ current. of-choice (λ (t : Sessions). Carried s t store store) _ _ _ (carried-same s store) selected)))
+
+-- what a lookup finds is in its slot
+module _ (s : Sessions) where
+  chosen : (f : Bool) (x y : Session) → choose f (Got x) Nothing ≡ Got y → (f ≡ true) × (x ≡ y)
+  unfolding choose
+  chosen true x y e = (refl, (cc))
+  chosen false x y e = let z : _≡_ {A = ℕ} 0 1 = cc in absurd (omega arith)
+
+  -- a filled slot with this index
+  pub record InSlot (index : ℕ) (x : Session) : Type 0 where
+    pub stored : slotAt s (slotIn index) ≡ x
+    pub filled : x .filled ≡ true
+    pub named : x .«receiving_index» ≡ index
+
+  got-in : (index : ℕ) (found : Found) (x : Session) → inSlotOf s index ≡ found
+      → caseFound found Nothing (λ (y : Session). choose (eqb (y .«receiving_index») index) (Got y) Nothing) ≡ Got x → InSlot index x
+  unfolding inSlotOf caseFound
+  got-in index Nothing x p q = let z : _≡_ {A = ℕ} 0 1 = cc in absurd (omega arith)
+  got-in index (Got y) x p q =
+      let a : (slotAt s (slotIn index) .filled ≡ true) × (slotAt s (slotIn index) ≡ y) = chosen _ _ _ p in
+      let b : (eqb (y .«receiving_index») index ≡ true) × (y ≡ x) = chosen _ _ _ q in
+      record {
+        stored = a .1 ∙ b .1;
+        filled = ap (λ (z : Session). z .filled) (sym (a .1 ∙ b .1)) ∙ a .0;
+        named = ap (λ (z : Session). z .«receiving_index») (sym (b .1)) ∙ eqb-true _ _ (b .0);
+      }
+
+  pub got-slot : (index : ℕ) (x : Session) → get s index ≡ Got x → InSlot index x
+  unfolding get
+  got-slot index x e = got-in index (inSlotOf s index) x refl e
+
+  same-index : (i j : ℕ) (x : Session) → j ≡ i → InSlot i x → InSlot j x
+  same-index i j x e y = rw e y
+
+  current-in : (selected : Selected) (x : Session) → caseSelected selected Nothing (λ (i : ℕ). get s i) ≡ Got x → InSlot (x .«receiving_index») x
+  unfolding caseSelected
+  current-in Unset x e = let z : _≡_ {A = ℕ} 0 1 = cc in absurd (omega arith)
+  current-in (Index i) x e = let y : InSlot i x = got-slot i x e in same-index i _ x (y .named) y
+
+  pub current-slot : (x : Session) → currentOf s ≡ Got x → InSlot (x .«receiving_index») x
+  unfolding currentOf
+  current-slot x e = current-in (s .current) x e
+
+  -- the session that a batch is for
+  of-live : (a b : Bool) (x y : Session) → choose a (choose b Nothing (Got x)) Nothing ≡ Got y → (a ≡ true) × (x ≡ y)
+  unfolding choose
+  of-live true true x y e = let z : _≡_ {A = ℕ} 0 1 = cc in absurd (omega arith)
+  of-live true false x y e = (refl, (cc))
+  of-live false b x y e = let z : _≡_ {A = ℕ} 0 1 = cc in absurd (omega arith)
+
+  received-in : (index id now : ℕ) (found : Found) (x : Session) → get s index ≡ found
+      → caseFound found Nothing (λ (y : Session). choose (eqb (y .id) id) (choose (expiredAt y now) Nothing (Got y)) Nothing) ≡ Got x
+      → InSlot index x × (x .id ≡ id)
+  unfolding caseFound
+  received-in index id now Nothing x p q = let z : _≡_ {A = ℕ} 0 1 = cc in absurd (omega arith)
+  received-in index id now (Got y) x p q =
+      let a : (eqb (y .id) id ≡ true) × (y ≡ x) = of-live _ _ y x q in
+      (got-slot index x (p ∙ ap Got (a .1)), ap (λ (z : Session). z .id) (sym (a .1)) ∙ eqb-true _ _ (a .0))
+
+  pub received-slot : (index id now : ℕ) (x : Session) → receivingSession s index id now ≡ Got x → InSlot index x × (x .id ≡ id)
+  unfolding receivingSession
+  received-slot index id now x e = received-in index id now (get s index) x refl e
+
+-- slots emptied, and the current session as it was or none
+pub record Thinned (s last : Sessions) (store left : List ℕ) : Type 0 where
+  pub carried : Carried s last store left
+  pub current : (x : Session) → currentOf last ≡ Got x → currentOf s ≡ Got x
+
+pub thinned-same : (s : Sessions) (store : List ℕ) → Thinned s s store store
+thinned-same s store = record { carried = carried-same s store; current = λ x e. e }
+
+thinned-on : (s t u : Sessions) (store mid left : List ℕ) → Thinned s t store mid → Thinned t u mid left → Thinned s u store left
+thinned-on s t u store mid left a b =
+    record { carried = carried-on s t u store mid left (a .carried) (b .carried); current = λ x e. a .current x (b .current x e) }
+
+-- a current session that is still there was current before
+module _ (s last : Sessions) (store left : List ℕ) (c : Carried s last store left) where
+  same-found : (i : ℕ) (f : Bool) (x : Session) → slotAt last (slotIn i) .filled ≡ f
+      → caseFound (choose f (Got (slotAt last (slotIn i))) Nothing) Nothing (λ (y : Session). choose (eqb (y .«receiving_index») i) (Got y) Nothing) ≡ Got x
+      → get s i ≡ Got x
+  unfolding get inSlotOf choose caseFound
+  same-found i true x p e =
+      let q : slotAt last (slotIn i) ≡ slotAt s (slotIn i) = c .slots (slotIn i) (omega arith) p .0 in
+      let f : slotAt s (slotIn i) .filled ≡ true = ap (λ (y : Session). y .filled) (sym q) ∙ p in
+      rw f (rw q at e)
+  same-found i false x p e = let z : _≡_ {A = ℕ} 0 1 = cc in absurd (omega arith)
+
+  still-current : (now was : Selected) (x : Session) → now ≡ was → caseSelected now Nothing (λ (i : ℕ). get last i) ≡ Got x
+      → caseSelected was Nothing (λ (i : ℕ). get s i) ≡ Got x
+  unfolding caseSelected get inSlotOf
+  still-current Unset was x q e = let z : _≡_ {A = ℕ} 0 1 = cc in absurd (omega arith)
+  still-current (Index i) was x q e = rw (← q) (same-found i _ x refl e)
+
+  kept-current : last .current ≡ s .current → Thinned s last store left
+  unfolding currentOf
+  kept-current q = record { carried = c; current = λ x e. still-current (last .current) (s .current) x q e }
+
+  no-current : last .current ≡ Unset → Thinned s last store left
+  unfolding currentOf caseSelected
+  no-current q = record { carried = c; current = λ x e. let z : _≡_ {A = ℕ} 0 1 = cc in absurd (omega arith) }
+
+-- an empty slot is not filled
+empty-filled : (x : Session) → x ≡ emptySession → x .filled ≡ true → ⊥
+unfolding emptySession newSession
+empty-filled x e f = let z : _≡_ {A = ℕ} 0 1 = cc in omega arith
+
+-- a slot emptied and its words zeroed
+module _ (s last : Sessions) (store : List ℕ) (k : ℕ) (eight : length (s .slots) ≡ 8) (size : length store ≡ 1024) (low : k < 8) where
+  carried-emptied : last .slots ≡ set (s .slots) k emptySession → last .inserted ≡ s .inserted → Carried s last store (putSlot store k (zeros 128))
+  carried-emptied e i =
+      record {
+        eight = ap length e ∙ length-set (s .slots) k emptySession;
+        size = length-put store (zeros 128) k size low (length-zeros 128) ∙ sym size;
+        count = i;
+        slots = λ j high f. elim (ℕ-discrete j k) [
+          | yes q ↦ absurd (empty-filled _ (ap (λ (n : ℕ). slotAt last n) q ∙ ap (λ (l : List Session). getD l k emptySession) e ∙ getD-set-same (s .slots) k emptySession emptySession (omega arith)) f)
+          | no q ↦ (let y : Kept s last store (putSlot store k (zeros 128)) j = kept-other s store size j k low q last emptySession (zeros 128) (length-zeros 128) e in (y .session, y .words))
+        ];
+      }
+
+-- an expiry under way
+record Thinning (s : Sessions) (store : List ℕ) (e : Expiring) : Type 0 where
+  thinned : Thinned s (e .expired .sessions) store (e .store)
+  eight : length (e .expired .sessions .slots) ≡ 8
+  size : length (e .store) ≡ 1024
+
+module _ (s : Sessions) (store : List ℕ) (now : ℕ) where
+  thinned-discard : (e : Expired) (left : List ℕ) (k : ℕ) → length (e .sessions .slots) ≡ 8 → length left ≡ 1024 → k < 8
+      → Thinned (e .sessions) (discard e k .sessions) left (putSlot left k (zeros 128))
+  unfolding discard emptied
+  thinned-discard e left k eight size low =
+      of-choice (λ (y : Expired). Thinned (e .sessions) (y .sessions) left (putSlot left k (zeros 128))) _ _ _
+      (no-current (e .sessions) _ left _ (carried-emptied (e .sessions) _ left k eight size low refl refl) refl)
+      (kept-current (e .sessions) _ left _ (carried-emptied (e .sessions) _ left k eight size low refl refl) refl)
+
+  thinning-slot : (e : Expiring) (k : ℕ) → k < 8 → Thinning s store e → Thinning s store (expireSlot e k now)
+  unfolding expireSlot
+  thinning-slot e k low y =
+      let d : Thinned (e .expired .sessions) (discard (e .expired) k .sessions) (e .store) (putSlot (e .store) k (zeros 128)) =
+      thinned-discard (e .expired) (e .store) k (y .eight) (y .size) low in
+      of-choice (λ (x : Expiring). Thinning s store x) _ _ _
+      (record {
+        thinned = thinned-on s (e .expired .sessions) _ store (e .store) _ (y .thinned) d;
+        eight = d .carried .eight ∙ y .eight;
+        size = d .carried .size ∙ y .size;
+      })
+      y
+
+  thinning-first : (e : Expiring) (count : ℕ) → count ≤ 8 → Thinning s store e → Thinning s store (expireFirst e count now)
+  unfolding expireFirst
+  thinning-first e zero h y = y
+  thinning-first e (suc count) h y = thinning-slot (expireFirst e count now) count (omega arith) (thinning-first e count (omega arith) y)
+
+  -- every expired session discarded
+  pub thinned-expire : length (s .slots) ≡ 8 → length store ≡ 1024 → Thinned s (expire s store now .expired .sessions) store (expire s store now .store)
+  unfolding expire
+  thinned-expire eight size =
+      of-choice (λ (x : Expiring). Thinned s (x .expired .sessions) store (x .store)) _ _ _
+      (thinning-first _ 8 (omega arith) (record { thinned = thinned-same s store; eight = eight; size = size }) .thinned)
+      (thinned-same s store)
+
+  -- every session dropped
+  pub thinned-clear : length (s .slots) ≡ 8 → length store ≡ 1024 → Thinned s (clear s store .sessions) store (clear s store .store)
+  unfolding clear emptySlots
+  thinned-clear eight size =
+      of-choice (λ (x : Held). Thinned s (x .sessions) store (x .store)) _ _ _
+      (no-current s _ store _
+      (record {
+        eight = length-replicate 8 emptySession ∙ sym eight;
+        size = length-zeros 1024 ∙ sym size;
+        count = refl;
+        slots = λ k low f. absurd (empty-filled _ (getD-replicate 8 k emptySession emptySession low) f);
+      })
+      refl)
+      (thinned-same s store)
+
+-- a session put into its slot
+module _ (s : Sessions) (x : Session) (store : List ℕ) (eight : length (s .slots) ≡ 8) where
+  pub put-at : slotAt (put s x) (slotIn (x .«receiving_index»)) ≡ x
+  unfolding put
+  put-at = getD-set-same (s .slots) (slotIn (x .«receiving_index»)) x emptySession (omega arith)
+
+  pub changed-put : Changed s (put s x) store store (slotIn (x .«receiving_index»))
+  unfolding put
+  changed-put =
+      record {
+        eight = length-set (s .slots) (slotIn (x .«receiving_index»)) x;
+        size = refl;
+        others = λ k low d. (getD-set-other (s .slots) (slotIn (x .«receiving_index»)) k x emptySession d, refl);
+      }

@@ -1,0 +1,26 @@
+-- Demand 2, the missing report: a recount of what was committed.
+use mathlib.Core.Path.{_≡_}
+use mathlib.Core.Bool.{true}
+use mathlib.Core.List.{List}
+use Prim.Native.Nat.{ℕ, _-_, _^_, _<_}
+use Rattle.demands.specs.Calls.{Call, step, after, Creation, created, Good}
+use Rattle.demands.specs.Calls.Call.{missing}
+use Rattle.demands.specs.Made.{made, insertions}
+use Rattle.demands.specs.Receiving.{historyOf}
+use Rattle.sessions.specs.Sessions.{slotAt}
+use Rattle.sessions.specs.declared.session.Session.{Session}
+use Rattle.tunnel.specs.declared.answer.Answer.the-variants.{Report}
+use Rattle.window.specs.History.{amongLast}
+
+-- the record of a slot after a list of calls
+abbrev pub slotAfter : Creation → List Call → ℕ → Session
+slotAfter c calls slot = slotAt (after (created c) calls .tunnel .control .sessions) slot
+
+-- For every creation that is not turned down, every list of calls with fewer than 2^64 insertions and every filled slot: the missing report
+-- of its local index is 8,192 less the number of its history's counters among the last 8,192 below the next expected one.
+abbrev pub MissingReport : Type 0
+MissingReport =
+    (c : Creation) → Good c → (calls : List Call) → insertions (made (created c) calls) < 2 ^ 64
+    → (slot : ℕ) → slot < 8 → slotAfter c calls slot .filled ≡ true
+    → step (after (created c) calls) (missing (slotAfter c calls slot .«receiving_index»)) .answer
+    ≡ Report (8192 - amongLast (historyOf (slotAfter c calls slot .id) (created c) calls))
