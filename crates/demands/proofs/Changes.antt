@@ -13,6 +13,7 @@ use borrow.Author.Tests.{eq-eqb, ne-eqb, eqb-true}
 use Rattle.base.specs.Choice.{choose}
 use Rattle.demands.proofs.Held.{
   from-on,
+  long-from,
   counters-on,
   counters-own,
   counters-other,
@@ -91,10 +92,6 @@ module _ (n : ℕ) (h : ℕ → List ℕ) (g : List Grant) (s last : Sessions) (
         (λ i d. refl) (λ i d. others i (λ p. d (p ∙ sym id)))
         (record { count = y .«sending_key_counter»; are = ap (λ (i : ℕ). countersOf i f) id ∙ own; below = below })
 
-    -- nothing granted
-    pub held-marked : y .«sending_key_counter» ≡ x .«sending_key_counter» → Held n h g last store
-    held-marked e = held-counted g (λ i d. refl) (own-slot .granted ∙ ap (λ (i : ℕ). upFrom 0 i) (sym e))
-
     -- so many counters granted
     pub held-granted : (peer len : ℕ) → y .«sending_key_counter» ≡ x .«sending_key_counter» + len
         → Held n h (g ++ granting (x .id) peer (x .«sending_key_counter») len ∷ []) last store
@@ -106,6 +103,20 @@ module _ (n : ℕ) (h : ℕ → List ℕ) (g : List Grant) (s last : Sessions) (
         ∙ ap (λ (l : List ℕ). upFrom 0 (x .«sending_key_counter») ++ l) (counters-own (x .id) peer (x .«sending_key_counter») len)
         ∙ ap (λ (i : ℕ). upFrom 0 (x .«sending_key_counter») ++ upFrom i len) (sym start)
         ∙ from-on 0 (x .«sending_key_counter») len ∙ ap (λ (i : ℕ). upFrom 0 i) (sym e))
+
+  -- the send counter is at most LIMIT
+  counter-below : x .«sending_key_counter» ≤ limit
+  counter-below =
+      let r : Runs (countersOf (x .id) g) = w .runs (x .id) in
+      let e : x .«sending_key_counter» ≡ r .count =
+      sym (long-from 0 _) ∙ ap length (sym (own-slot .granted) ∙ r .are) ∙ long-from 0 (r .count) in
+      omega (arith, e, r .below)
+
+  -- nothing granted
+  pub held-marked : Changed s last store store j → slotAt last j ≡ y → last .inserted ≡ s .inserted → y .«sending_key_counter» ≡ x .«sending_key_counter»
+      → Held n h g last store
+  held-marked c there count e =
+      held-counted c there count (rw e counter-below) g (λ i d. refl) (own-slot .granted ∙ ap (λ (i : ℕ). upFrom 0 i) (sym e))
 
 -- a session inserted
 module _ (n : ℕ) (h : ℕ → List ℕ) (g : List Grant) (s : Sessions) (store : List ℕ) (w : Held n h g s store) (x : Session)

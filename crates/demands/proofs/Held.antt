@@ -45,9 +45,10 @@ counters-on id (x ∷ g) h =
     ap (λ (l : List ℕ). choose (eqb (x .id) id) (upFrom (x .first) (x .length)) [] ++ l) (counters-on id g h)
     ∙ sym (append-assoc (choose (eqb (x .id) id) (upFrom (x .first) (x .length)) []) (countersOf id g) (countersOf id h))
 
-pub append-nothing : (l : List ℕ) → l ++ [] ≡ l
-append-nothing [] = refl
-append-nothing (x ∷ l) = ap (λ (r : List ℕ). x ∷ r) (append-nothing l)
+module _ {A : Type 0} where
+  pub append-nothing : (l : List A) → l ++ [] ≡ l
+  append-nothing [] = refl
+  append-nothing (x ∷ l) = ap (λ (r : List A). x ∷ r) (append-nothing l)
 
 pub counters-own : (id peer first n : ℕ) → countersOf id (granting id peer first n ∷ []) ≡ upFrom first n
 unfolding countersOf choose

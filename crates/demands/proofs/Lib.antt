@@ -1,3 +1,6 @@
 pub mod Changes
+pub mod Granting
 pub mod Held
+pub mod Known
 pub mod Moves
+pub mod Queued
