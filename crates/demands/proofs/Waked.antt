@@ -1,0 +1,202 @@
+-- What is known after a waking: it puts at most one event into the ring, and a keepalive that it puts there is a grant of the current session.
+-- Assumes nothing.
+use mathlib.Core.Path.{_≡_, refl, ap, sym, _∙_}
+use mathlib.Core.Bool.{Bool, true, false}
+use mathlib.Core.List.{List, [], _∷_, _++_}
+use Prim.Native.Nat.{ℕ}
+use native.Mathlib.Omega.{arith}
+use lib.ListN.{length}
+use Rattle.base.specs.Choice.{choose}
+use Rattle.demands.proofs.Granting.{Grants, Encrypts, encrypts}
+use Rattle.demands.proofs.Granting.Encrypts.{skips, sends}
+use Rattle.demands.proofs.Held.{Held, held-carried}
+use Rattle.demands.proofs.Known.{Known}
+use Rattle.demands.proofs.Moves.{carried-next, Thinned, thinned-expire, thinned-clear}
+use Rattle.demands.proofs.Queued.{EventGranted}
+use Rattle.demands.specs.Sending.{Grant, granting, keepaliveBy}
+use Rattle.sessions.specs.Session.{caseTime}
+use Rattle.sessions.specs.Sessions.{caseFound, currentOf, nextIndex, expire, clear}
+use Rattle.sessions.specs.declared.session.Session.{Session}
+use Rattle.sessions.specs.declared.session.Time.{Time}
+use Rattle.sessions.specs.declared.session.Time.the-variants.{Never, At}
+use Rattle.sessions.specs.declared.sessions.Found.{Found}
+use Rattle.sessions.specs.declared.sessions.Found.the-variants.{Got}
+use Rattle.sessions.specs.declared.sessions.Sessions.{Sessions}
+use Rattle.tunnel.proofs.Steps.{of-choice, of-found}
+use Rattle.tunnel.specs.Control.{Inner, withSessions, queueing}
+use Rattle.tunnel.specs.Event.{caseEvent}
+use Rattle.tunnel.specs.Messages.{initiate, initiating}
+use Rattle.tunnel.specs.RingBuffer.{pushBack}
+use Rattle.tunnel.specs.Transport.{caseDatagram, encryptKeepalive}
+use Rattle.tunnel.specs.Waking.{
+  inner,
+  clearAll,
+  expireControl,
+  scheduling,
+  queueKeepalive,
+  persistentKeepalive,
+  keepalives,
+  wakeIdle,
+  wakeInProgress,
+  expireCookie,
+  wakeLater,
+  wakeRest,
+  wakeCurrent,
+  wakeSessions,
+  sendScheduled,
+  wake,
+}
+use Rattle.tunnel.specs.declared.control.Control.{Control}
+use Rattle.tunnel.specs.declared.event.Event.{Event}
+use Rattle.tunnel.specs.declared.event.Event.the-variants.{SendHandshakeInitiation, SendKeepalive, ConnectionExpired}
+use Rattle.tunnel.specs.declared.ring_buffer.RingBuffer.{RingBuffer}
+use Rattle.tunnel.specs.declared.transport.Encrypted.{Encrypted}
+
+-- an event that is no grant
+pub record Ungranted (event : Event) : Type 0 where
+  pub granted : (k : List Grant) → EventGranted k event
+  pub grants : (found : Found) → keepaliveBy found event ≡ []
+
+initiation-none : (local : ℕ) → Ungranted (SendHandshakeInitiation local)
+unfolding keepaliveBy caseEvent
+initiation-none local = record { granted = λ k p q e. (let z : _≡_ {A = ℕ} 0 1 = cc in absurd (omega arith)); grants = λ found. refl }
+
+module _ (c : Control) (store : List ℕ) where
+  -- what a waking does: nothing to the ring, an event without a grant, or a keepalive that the current session grants
+  pub data Waked (d : Control) (left : List ℕ) : Type 0 where
+    silent : ((n : ℕ) (h : ℕ → List ℕ) (g : List Grant) → Held n h g (c .sessions) store → Held n h g (d .sessions) left)
+        → d .events ≡ c .events → Waked d left
+    queues : (event : Event) → Ungranted event
+        → ((n : ℕ) (h : ℕ → List ℕ) (g : List Grant) → Held n h g (c .sessions) store → Held n h g (d .sessions) left)
+        → d .events ≡ pushBack (c .events) event → Waked d left
+    grants : (x : Session) (peer first : ℕ) → currentOf (c .sessions) ≡ Got x → x .«sending_index» ≡ peer
+        → ((n : ℕ) (h : ℕ → List ℕ) (g k : List Grant) → Known n h g k c store → Held n h (g ++ granting (x .id) peer first 1 ∷ []) (d .sessions) left)
+        → d .events ≡ pushBack (c .events) (SendKeepalive peer first) → Waked d left
+
+  -- sessions, a ring and a store on the way, before anything is put into the ring
+  pub record From (s : Sessions) (r : RingBuffer) (left : List ℕ) : Type 0 where
+    pub held : (n : ℕ) (h : ℕ → List ℕ) (g : List Grant) → Held n h g (c .sessions) store → Held n h g s left
+    pub ring : r ≡ c .events
+    pub current : (x : Session) → currentOf s ≡ Got x → currentOf (c .sessions) ≡ Got x
+    pub eight : length (s .slots) ≡ 8
+    pub size : length left ≡ 1024
+
+  from-thinned : (s t : Sessions) (r : RingBuffer) (mid left : List ℕ) → From s r mid → Thinned s t mid left → From t r left
+  from-thinned s t r mid left f y =
+      record {
+        held = λ n h g w. held-carried n h g s t mid left (f .held n h g w) (y .carried);
+        ring = f .ring;
+        current = λ x e. f .current x (y .current x e);
+        eight = y .carried .eight ∙ f .eight;
+        size = y .carried .size ∙ f .size;
+      }
+
+  -- the connection ended
+  ended : (d : Control) (left : List ℕ) (now : ℕ) → From (d .sessions) (d .events) left
+      → Waked (expireControl d left now .control) (expireControl d left now .store)
+  unfolding expireControl clearAll queueing keepaliveBy caseEvent
+  ended d left now f =
+      let t : From (clear (d .sessions) left .sessions) (d .events) (clear (d .sessions) left .store) =
+      from-thinned (d .sessions) _ (d .events) left _ f (thinned-clear (d .sessions) left now (f .eight) (f .size)) in
+      queues ConnectionExpired
+      (record { granted = λ k p q e. (let z : _≡_ {A = ℕ} 0 1 = cc in absurd (omega arith)); grants = λ found. refl })
+      (t .held) (ap (λ (r : RingBuffer). pushBack r ConnectionExpired) (f .ring))
+
+  -- a keepalive queued, if there is a session for it
+  module _ (d : Control) (left : List ℕ) (now : ℕ) (f : From (d .sessions) (d .events) left) where
+    of-keepalive : (e : Encrypted) → Encrypts d left e
+        → Waked (caseDatagram (e .keepalive) (e .control) (λ peer counter. queueing (e .control) (SendKeepalive peer counter))) left
+    unfolding caseDatagram queueing
+    of-keepalive e (skips p q) = rw (q, p) (silent (f .held) (f .ring))
+    of-keepalive e (sends x peer first g q r) =
+        rw q
+        (grants x peer first (f .current x (g .current)) (g .peer-is)
+        (λ n h l k w. g .known n h l k (record { held = f .held n h l (w .held); queue = rw (f .ring) (w .queue) }) .held)
+        (ap (λ (y : RingBuffer). pushBack y (SendKeepalive peer first)) (r ∙ f .ring)))
+
+    queued-keepalive : Waked (queueKeepalive d now) left
+    unfolding queueKeepalive
+    queued-keepalive = of-keepalive (encryptKeepalive d now) (encrypts d left now)
+
+  module _ (left : List ℕ) (now : ℕ) where
+    persistent : (d : Control) (required : Bool) → From (d .sessions) (d .events) left → Waked (persistentKeepalive d required now) left
+    unfolding persistentKeepalive
+    persistent d required f =
+        of-choice (λ (y : Control). Waked y left) _ _ _ (queued-keepalive _ left now f)
+        (of-choice (λ (y : Control). Waked y left) _ _ _ (queued-keepalive d left now f) (silent (f .held) (f .ring)))
+
+    kept-alive : (d : Control) → From (d .sessions) (d .events) left → Waked (keepalives d now) left
+    unfolding keepalives
+    kept-alive d f = of-choice (λ (y : Control). Waked y left) _ _ _ (persistent _ true f) (persistent d false f)
+
+    module _ (jitter : ℕ) (required : Bool) where
+      scheduled : (d : Control) → From (d .sessions) (d .events) left → Waked (scheduling d jitter now) left
+      unfolding scheduling
+      scheduled d f = silent (f .held) (f .ring)
+
+      idle : (d : Control) → From (d .sessions) (d .events) left → Waked (wakeIdle d required jitter now) left
+      unfolding wakeIdle
+      idle d f =
+          of-choice (λ (y : Control). Waked y left) _ _ _ (scheduled d f)
+          (of-choice (λ (y : Control). Waked y left) _ _ _ (scheduled d f) (kept-alive d f))
+
+      progress : (d : Control) → From (d .sessions) (d .events) left
+          → Waked (wakeInProgress d left required jitter now .control) (wakeInProgress d left required jitter now .store)
+      unfolding wakeInProgress
+      progress d f =
+          of-choice (λ (y : Inner). Waked (y .control) (y .store)) _ _ _ (ended d left now f)
+          (of-choice (λ (y : Inner). Waked (y .control) (y .store)) _ _ _ (scheduled d f)
+          (of-choice (λ (y : Inner). Waked (y .control) (y .store)) _ _ _ (scheduled d f) (silent (f .held) (f .ring))))
+
+      of-retry : (retry : Time) (d : Control) → From (d .sessions) (d .events) left
+          → Waked
+          (caseTime retry (inner (wakeIdle d required jitter now) left) (λ at. wakeInProgress d left required jitter now) .control)
+          (caseTime retry (inner (wakeIdle d required jitter now) left) (λ at. wakeInProgress d left required jitter now) .store)
+      unfolding caseTime
+      of-retry Never d f = idle d f
+      of-retry (At at) d f = progress d f
+
+      later : (d : Control) → From (d .sessions) (d .events) left
+          → Waked (wakeLater d left required jitter now .control) (wakeLater d left required jitter now .store)
+      unfolding wakeLater
+      later d f = of-choice (λ (y : Inner). Waked (y .control) (y .store)) _ _ _ (ended d left now f) (of-retry _ d f)
+
+      from-cookie : (d : Control) → From (d .sessions) (d .events) left → From (expireCookie d now .sessions) (expireCookie d now .events) left
+      unfolding expireCookie
+      from-cookie d f = of-choice (λ (y : Control). From (y .sessions) (y .events) left) _ _ _ f f
+
+      rest : (d : Control) → From (d .sessions) (d .events) left
+          → Waked (wakeRest d left required jitter now .control) (wakeRest d left required jitter now .store)
+      unfolding wakeRest
+      rest d f = later (expireCookie d now) (from-cookie d f)
+
+    woken-current : (d : Control) (expired : Found) (jitter : ℕ) → From (d .sessions) (d .events) left
+        → Waked (wakeCurrent d left expired jitter now .control) (wakeCurrent d left expired jitter now .store)
+    unfolding wakeCurrent
+    woken-current d expired jitter f =
+        of-found (λ (y : Inner). Waked (y .control) (y .store)) _ _ _ (rest jitter false d f)
+        (λ session. of-choice (λ (y : Inner). Waked (y .control) (y .store)) _ _ _ (ended d left now f) (rest jitter _ d f))
+
+  module _ (jitter now : ℕ) (f : From (c .sessions) (c .events) store) where
+    woken-sessions : Waked (wakeSessions c store jitter now .control) (wakeSessions c store jitter now .store)
+    unfolding wakeSessions
+    woken-sessions =
+        woken-current _ now (withSessions c (expire (c .sessions) store now .expired .sessions)) _ jitter
+        (from-thinned (c .sessions) _ (c .events) store _ f (thinned-expire (c .sessions) store now (f .eight) (f .size)))
+
+    -- the scheduled handshake sent
+    sent-scheduled : Waked (sendScheduled c now) store
+    unfolding sendScheduled initiate initiating queueing
+    sent-scheduled =
+        queues _ (initiation-none _)
+        (λ n h g w. held-carried n h g (c .sessions) _ store store w (carried-next (c .sessions) store)) refl
+
+    of-scheduled : (at : Time) → Waked (caseTime at (wakeSessions c store jitter now) (λ at. inner c store) .control)
+        (caseTime at (wakeSessions c store jitter now) (λ at. inner c store) .store)
+    unfolding caseTime
+    of-scheduled Never = woken-sessions
+    of-scheduled (At at) = silent (f .held) (f .ring)
+
+    pub woken : Waked (wake c store jitter now .control) (wake c store jitter now .store)
+    unfolding wake
+    woken = of-choice (λ (y : Inner). Waked (y .control) (y .store)) _ _ _ sent-scheduled (of-scheduled _)
