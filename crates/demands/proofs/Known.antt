@@ -42,12 +42,16 @@ pub record Plain (answer : Answer) : Type 0 where
   pub inserted : inserts answer ≡ 0
   pub granted : (w : World) → answeredGrant w answer ≡ []
 
+-- the same insertions and grants, said otherwise
+pub known-as : (n m : ℕ) (h : ℕ → List ℕ) (g f k l : List Grant) (c : Control) (store : List ℕ) → m ≡ n → f ≡ g → l ≡ k
+    → Known n h g k c store → Known m h f l c store
+known-as n m h g f k l c store p q r w = rw (p, q, r) w
+
 -- nothing more inserted, and nothing more granted
 pub known-same : (n m : ℕ) (h : ℕ → List ℕ) (g a k v : List Grant) (c : Control) (store : List ℕ) → m ≡ 0 → a ≡ [] → v ≡ []
     → Known n h g k c store → Known (n + m) h (g ++ (a ++ v)) (k ++ v) c store
 known-same n m h g a k v c store e p q w =
-    let z : n + m ≡ n = omega (arith, e) in
-    rw (z, p, q, append-nothing g, append-nothing k) w
+    known-as n _ h g _ k _ c store (omega (arith, e)) (rw (p, q) (append-nothing g)) (rw q (append-nothing k)) w
 
 -- what an operation that inserts, commits and grants nothing hands back
 pub record Idle (c : Control) (store : List ℕ) (out : Out) (left : List ℕ) : Type 0 where

@@ -5,4 +5,5 @@ pub mod Judging
 pub mod Known
 pub mod Moves
 pub mod Queued
+pub mod Stepped
 pub mod Waked

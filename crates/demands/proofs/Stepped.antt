@@ -1,0 +1,319 @@
+-- Each call keeps what is known, with what it inserts, commits and grants added.
+-- Assumes nothing.
+use mathlib.Core.Path.{_≡_, refl, ap, sym, _∙_}
+use mathlib.Core.Bool.{Bool, true, false}
+use mathlib.Core.List.{List, [], _∷_, _++_}
+use Prim.Native.Nat.{ℕ, _+_, _^_, _≤_, _<_}
+use native.Mathlib.Decide.{ℕ-discrete}
+use native.Mathlib.Nat.{add-zero}
+use native.Mathlib.Omega.{arith}
+use lib.Dec.{eqb}
+use lib.ListN.{length}
+use borrow.Author.Tests.{eq-eqb, ne-eqb, eqb-true, eqb-false}
+use Rattle.base.proofs.Choice.{yes-eq, no-eq}
+use Rattle.base.specs.Choice.{choose}
+use Rattle.demands.proofs.Granting.{Grants, Sends, sends-some}
+use Rattle.demands.proofs.Granting.Sends.{none, some}
+use Rattle.demands.proofs.Held.{append-nothing, SlotHeld, Held}
+use Rattle.demands.proofs.Judging.{Judged, judged-batch}
+use Rattle.demands.proofs.Judging.Judged.{turned, taken}
+use Rattle.demands.proofs.Known.{
+  Known,
+  Plain,
+  known-as,
+  known-same,
+  Idle,
+  idle-refused,
+  idle-start,
+  idle-restart,
+  idle-look,
+  idle-cookie,
+  idle-event,
+  idle-deadline,
+  idle-missing,
+}
+use Rattle.demands.proofs.Queued.{EventGranted, queue-later, queue-push, put-none, put-pushed, among-last}
+use Rattle.demands.proofs.Waked.{Ungranted, Waked, From, woken}
+use Rattle.demands.proofs.Waked.Waked.{silent, queues, grants}
+use Rattle.demands.specs.Calls.{Call, World, Reply, stored, judged, step}
+use Rattle.demands.specs.Calls.Call.{start, restart, send, receive, look, initiation, response, cookie, timeout, event, deadline, missing}
+use Rattle.demands.specs.Made.{caseBatch, caseWaking, caseAnswer, inserts}
+use Rattle.demands.specs.Receiving.{committing}
+use Rattle.demands.specs.Sending.{Grant, granting, currentIn, putLast, keepaliveBy, wokenGrant, answeredGrant}
+use Rattle.sessions.specs.History.{recordedAll}
+use Rattle.sessions.specs.Sessions.{caseFound, currentOf}
+use Rattle.sessions.specs.declared.session.Session.{Session}
+use Rattle.sessions.specs.declared.sessions.Found.{Found}
+use Rattle.sessions.specs.declared.sessions.Found.the-variants.{Got}
+use Rattle.tunnel.proofs.Steps.{of-choice}
+use Rattle.tunnel.specs.Answer.{numberOf}
+use Rattle.tunnel.specs.Control.{Turn, refuse, done, expiredControl}
+use Rattle.tunnel.specs.Event.{caseEvent}
+use Rattle.tunnel.specs.RingBuffer.{pushBack}
+use Rattle.tunnel.specs.Transport.{Batched}
+use Rattle.tunnel.specs.Tunnel.{
+  Called,
+  CalledBatch,
+  gate,
+  timelessGate,
+  refused,
+  settled,
+  timed,
+  timeless,
+  kept,
+  timedTurn,
+  timedBatch,
+  callStart,
+  callRestart,
+  callSend,
+  callReceive,
+  callLook,
+  callInitiation,
+  callResponse,
+  callCookie,
+  callTimeout,
+  callEvent,
+  callDeadline,
+  callMissing,
+}
+use Rattle.tunnel.specs.Waking.{wake, handleTimeout}
+use Rattle.tunnel.specs.declared.answer.Answer.{Answer}
+use Rattle.tunnel.specs.declared.answer.Answer.the-variants.{No, Done, NoAnswer, Granted}
+use Rattle.tunnel.specs.declared.control.Control.{Control}
+use Rattle.tunnel.specs.declared.control.Out.{Out}
+use Rattle.tunnel.specs.declared.event.Event.{Event}
+use Rattle.tunnel.specs.declared.event.Event.the-variants.{Empty, SendKeepalive}
+use Rattle.tunnel.specs.declared.ring_buffer.RingBuffer.{RingBuffer}
+use Rattle.tunnel.specs.declared.tunnel.Answered.{Answered}
+use Rattle.tunnel.specs.declared.tunnel.Tunnel.{Tunnel}
+
+-- what is known after a call
+abbrev pub Next : (n : ℕ) (h : ℕ → List ℕ) (g k : List Grant) → World → Call → Reply → Type 0
+Next n h g k w call reply =
+    Known (n + inserts (reply .answer)) (λ id. committing id (h id) call reply)
+    (g ++ (answeredGrant w (reply .answer) ++ wokenGrant w call reply))
+    (k ++ wokenGrant w call reply)
+    (reply .world .tunnel .control)
+    (reply .world .store)
+
+keepalive-granted : (k : List Grant) (id peer first : ℕ) → EventGranted (k ++ granting id peer first 1 ∷ []) (SendKeepalive peer first)
+keepalive-granted k id peer first p c e =
+    let a : peer ≡ p = cc in
+    let b : first ≡ c = cc in
+    rw (← a, ← b) (among-last peer first id k)
+
+-- the frames of operations that insert, commit and grant nothing
+record Quiet (n : ℕ) (h : ℕ → List ℕ) (g k : List Grant) (store : List ℕ) (a : Answered) : Type 0 where
+  known : Known n h g k (a .tunnel .control) store
+  plain : Plain (a .answer)
+
+module _ (n : ℕ) (h : ℕ → List ℕ) (g k : List Grant) (w : World) (y : Known n h g k (w .tunnel .control) (w .store)) where
+  turned-down : (number : ℕ) → Quiet n h g k (w .store) (refused (w .tunnel) number)
+  unfolding refused refuse
+  turned-down number = record { known = y; plain = idle-refused (w .tunnel .control) (w .store) number .plain }
+
+  quiet-timed : (bad : Bool) (now : ℕ) (out : Out) → Idle (w .tunnel .control) (w .store) out (w .store) → Quiet n h g k (w .store) (timed (w .tunnel) bad now out)
+  unfolding timed settled
+  quiet-timed bad now out i =
+      of-choice (λ (a : Answered). Quiet n h g k (w .store) a) _ _ _ (record { known = i .known n h g k y; plain = i .plain }) (turned-down _)
+
+  quiet-timeless : (bad : Bool) (out : Out) → Idle (w .tunnel .control) (w .store) out (w .store) → Quiet n h g k (w .store) (timeless (w .tunnel) bad out)
+  unfolding timeless settled
+  quiet-timeless bad out i =
+      of-choice (λ (a : Answered). Quiet n h g k (w .store) a) _ _ _ (record { known = i .known n h g k y; plain = i .plain }) (turned-down _)
+
+  next-quiet : (a : Answered) → Quiet n h g k (w .store) a
+      → Known (n + inserts (a .answer)) h (g ++ (answeredGrant w (a .answer) ++ [])) (k ++ []) (a .tunnel .control) (w .store)
+  next-quiet a q = known-same n _ h g _ k [] (a .tunnel .control) (w .store) (q .plain .inserted) (q .plain .granted w) refl (q .known)
+
+  next-start : (now : ℕ) → Next n h g k w (start now) (step w (start now))
+  unfolding step callStart committing caseBatch wokenGrant caseWaking
+  next-start now = next-quiet _ (quiet-timed _ now _ (idle-start (w .tunnel .control) (w .store) now))
+
+  next-restart : (now : ℕ) → Next n h g k w (restart now) (step w (restart now))
+  unfolding step callRestart committing caseBatch wokenGrant caseWaking
+  next-restart now = next-quiet _ (quiet-timed _ now _ (idle-restart (w .tunnel .control) (w .store) now))
+
+  next-look : (index counter now : ℕ) → Next n h g k w (look index counter now) (step w (look index counter now))
+  unfolding step callLook committing caseBatch wokenGrant caseWaking
+  next-look index counter now = next-quiet _ (quiet-timed _ now _ (idle-look (w .tunnel .control) (w .store) index counter now))
+
+  next-cookie : (receiver outcome now : ℕ) → Next n h g k w (cookie receiver outcome now) (step w (cookie receiver outcome now))
+  unfolding step callCookie committing caseBatch wokenGrant caseWaking
+  next-cookie receiver outcome now = next-quiet _ (quiet-timed _ now _ (idle-cookie (w .tunnel .control) (w .store) receiver _ now))
+
+  next-event : Next n h g k w event (step w event)
+  unfolding step callEvent committing caseBatch wokenGrant caseWaking
+  next-event = next-quiet _ (quiet-timeless _ _ (idle-event (w .tunnel .control) (w .store)))
+
+  next-deadline : Next n h g k w deadline (step w deadline)
+  unfolding step callDeadline committing caseBatch wokenGrant caseWaking
+  next-deadline = next-quiet _ (quiet-timeless _ _ (idle-deadline (w .tunnel .control) (w .store) _))
+
+  next-missing : (index : ℕ) → Next n h g k w (missing index) (step w (missing index))
+  unfolding step callMissing committing caseBatch wokenGrant caseWaking
+  next-missing index = next-quiet _ (quiet-timeless _ _ (idle-missing (w .tunnel .control) (w .store) index))
+
+  -- a send
+  of-send : (now : ℕ) (out : Out) → Sends (w .tunnel .control) (w .store) out
+      → Known (n + inserts (out .answer)) h (g ++ (answeredGrant w (out .answer) ++ [])) (k ++ []) (out .control) (w .store)
+  unfolding inserts answeredGrant caseAnswer caseFound
+  of-send now out (none i) = known-same n _ h g _ k [] (out .control) (w .store) (i .plain .inserted) (i .plain .granted w) refl (i .known n h g k y)
+  of-send now out (some x peer first len v e) =
+      known-as n _ h _ _ k _ (out .control) (w .store) (rw e (add-zero n)) (rw (e, v .current)) (append-nothing k) (v .known n h g k y)
+
+  next-send : (count now : ℕ) → Next n h g k w (send count now) (step w (send count now))
+  unfolding step callSend timed settled committing caseBatch wokenGrant caseWaking
+  next-send count now =
+      of-choice
+      (λ (a : Answered). Known (n + inserts (a .answer)) h (g ++ (answeredGrant w (a .answer) ++ [])) (k ++ []) (a .tunnel .control) (w .store))
+      _ _ _
+      (of-send now _ (sends-some (w .tunnel .control) (w .store) count now))
+      (next-quiet _ (turned-down _))
+
+  -- a batch
+  pointwise : (i : ℕ → List ℕ) (c : Control) (store : List ℕ) → ((id : ℕ) → i id ≡ h id) → Known n h g k c store → Known n i g k c store
+  pointwise i c store e v =
+      record {
+        held = record {
+          eight = v .held .eight;
+          size = v .held .size;
+          count = v .held .count;
+          slots = λ j low f.
+              (let s : SlotHeld n h g j _ _ = v .held .slots j low f in
+              record { placed = s .placed; named = s .named; stands = rw (e _) (s .stands); granted = s .granted });
+          apart = v .held .apart;
+          unborn = λ id l. e id ∙ v .held .unborn id l;
+          ungranted = v .held .ungranted;
+          runs = v .held .runs;
+        };
+        queue = v .queue;
+      }
+
+  module _ (index id now : ℕ) (counters kinds verdicts : List ℕ) where
+    abbrev batch : Call
+    batch = receive index id now counters kinds verdicts
+
+    -- turned down
+    next-turned : (reply : Reply) (number : ℕ) → reply .answer ≡ No number → (number ≡ 0 → ⊥)
+        → Known n h g k (reply .world .tunnel .control) (reply .world .store) → Next n h g k w batch reply
+    unfolding committing caseBatch wokenGrant caseWaking numberOf inserts answeredGrant caseAnswer
+    next-turned reply number e d v =
+        known-as n _ _ g _ k _ _ _ (rw e (add-zero n)) (rw e (append-nothing g)) (append-nothing k)
+        (pointwise _ _ _ (λ y. of-choice (λ (l : List ℕ). l ≡ h y) _ _ _ (rw e (sym (no-eq number 0 (h y) _ _ d refl))) refl) v)
+
+    -- judged
+    next-taken : (reply : Reply) → reply .answer ≡ Done
+        → ((i : ℕ → List ℕ) → i id ≡ recordedAll (h id) counters (reply .verdicts) → ((z : ℕ) → (z ≡ id → ⊥) → i z ≡ h z)
+        → Known n i g k (reply .world .tunnel .control) (reply .world .store))
+        → Next n h g k w batch reply
+    unfolding committing caseBatch wokenGrant caseWaking numberOf inserts answeredGrant caseAnswer
+    next-taken reply e v =
+        known-as n _ _ g _ k _ _ _ (rw e (add-zero n)) (rw e (append-nothing g)) (append-nothing k)
+        (v _ (sym (yes-eq id id _ _ _ refl (rw e (yes-eq 0 0 _ _ _ refl refl)))) (λ z d. sym (no-eq id z _ _ _ (λ q. d (sym q)) refl)))
+
+    of-batch : (b : Batched) → Judged (w .tunnel .control) (w .store) id counters b
+        → Next n h g k w batch
+        (record {
+          world = record { tunnel = settled (w .tunnel) now (b .out) .tunnel; store = b .store };
+          answer = settled (w .tunnel) now (b .out) .answer;
+          verdicts = b .verdicts;
+        })
+    unfolding settled
+    of-batch b (turned number e d i) = next-turned _ number e d (i .known n h g k y)
+    of-batch b (taken e v) = next-taken _ e (λ i mine others. v n h i g k y mine others)
+
+    -- what a batch hands back, by the number of its checks
+    framed : (number : ℕ) (b : Batched) → CalledBatch
+    framed number b =
+        record {
+          answered = choose (eqb number 0) (settled (w .tunnel) now (b .out)) (refused (w .tunnel) number);
+          store = choose (eqb number 0) (b .store) (w .store);
+          verdicts = choose (eqb number 0) (b .verdicts) verdicts;
+        }
+
+    of-framed : (f : Bool) (number : ℕ) (b : Batched) → eqb number 0 ≡ f → Judged (w .tunnel .control) (w .store) id counters b
+        → Next n h g k w batch (judged (framed number b))
+    unfolding framed choose refused
+    of-framed true number b e j = rw e (of-batch b j)
+    of-framed false number b e j = rw e (next-turned _ number refl (eqb-false number 0 e) y)
+
+    next-receive : Next n h g k w batch (step w batch)
+    unfolding step callReceive timedBatch timed kept framed
+    next-receive = of-framed _ (gate (w .tunnel) _ now) _ refl (judged-batch (w .tunnel .control) (w .store) index id now counters kinds verdicts)
+
+  -- a waking
+  module _ (jitter now : ℕ) where
+    abbrev waking : Call
+    waking = timeout jitter now
+
+    abbrev put : Reply → Event
+    put reply = putLast (w .tunnel .control .events) (reply .world .tunnel .control .events)
+
+    ungranted : (reply : Reply) (e : Event) → put reply ≡ e → keepaliveBy (currentIn w) e ≡ [] → wokenGrant w waking reply ≡ []
+    unfolding wokenGrant caseWaking
+    ungranted reply e p q = rw p q
+
+    granted : (reply : Reply) (x : Session) (peer first : ℕ) → put reply ≡ SendKeepalive peer first → currentOf (w .tunnel .control .sessions) ≡ Got x
+        → wokenGrant w waking reply ≡ granting (x .id) peer first 1 ∷ []
+    unfolding wokenGrant caseWaking keepaliveBy caseEvent caseFound
+    granted reply x peer first p q = rw (p, q)
+
+    empty-none : keepaliveBy (currentIn w) Empty ≡ []
+    unfolding keepaliveBy caseEvent
+    empty-none = refl
+
+    -- the events that a waking puts
+    pushed : (reply : Reply) (e : Event) → reply .world .tunnel .control .events ≡ pushBack (w .tunnel .control .events) e → put reply ≡ e
+    pushed reply e p = rw p (put-pushed (w .tunnel .control .events) e (y .queue .ring))
+
+    next-waked : (reply : Reply) → Plain (reply .answer) → Waked (w .tunnel .control) (w .store) (reply .world .tunnel .control) (reply .world .store)
+        → Next n h g k w waking reply
+    unfolding committing caseBatch
+    next-waked reply p (silent v e) =
+        known-same n _ h g _ k _ _ _ (p .inserted) (p .granted w) (ungranted reply Empty (put-none _ _ e) empty-none)
+        (record { held = v n h g (y .held); queue = rw e (y .queue) })
+    next-waked reply p (queues ev u v e) =
+        known-same n _ h g _ k _ _ _ (p .inserted) (p .granted w) (ungranted reply ev (pushed reply ev e) (u .grants _))
+        (record { held = v n h g (y .held); queue = rw e (queue-push k _ (y .queue) ev (u .granted k)) })
+    next-waked reply p (grants x peer first q r v e) =
+        let l : wokenGrant w waking reply ≡ granting (x .id) peer first 1 ∷ [] = granted reply x peer first (pushed reply _ e) q in
+        known-as n _ h (g ++ granting (x .id) peer first 1 ∷ []) _ (k ++ granting (x .id) peer first 1 ∷ []) _ _ _ (rw (p .inserted) (add-zero n))
+        (rw (p .granted w, l)) (rw l)
+        (record {
+          held = v n h g k y;
+          queue = rw e (queue-push _ _ (queue-later k _ _ (y .queue)) _ (keepalive-granted k (x .id) peer first));
+        })
+
+    from-here : From (w .tunnel .control) (w .store) (w .tunnel .control .sessions) (w .tunnel .control .events) (w .store)
+    from-here = record { held = λ m i f z. z; ring = refl; current = λ x e. e; eight = y .held .eight; size = y .held .size }
+
+    same-waked : Waked (w .tunnel .control) (w .store) (w .tunnel .control) (w .store)
+    same-waked = silent (λ m i f z. z) refl
+
+    -- what a waking does, with its answer
+    record Woke (t : Turn) : Type 0 where
+      waked : Waked (w .tunnel .control) (w .store) (t .out .control) (t .store)
+      plain : Plain (t .out .answer)
+
+    woke : Woke (handleTimeout (w .tunnel .control) (w .store) jitter now)
+    unfolding handleTimeout done inserts answeredGrant caseAnswer
+    woke =
+        of-choice Woke _ _ _ (record { waked = same-waked; plain = record { inserted = refl; granted = λ v. refl } })
+        (record { waked = woken (w .tunnel .control) (w .store) jitter now from-here; plain = record { inserted = refl; granted = λ v. refl } })
+
+    framed-turn : (number : ℕ) (t : Turn) → Called
+    framed-turn number t =
+        record {
+          answered = choose (eqb number 0) (settled (w .tunnel) now (t .out)) (refused (w .tunnel) number);
+          store = choose (eqb number 0) (t .store) (w .store);
+        }
+
+    of-turn : (f : Bool) (number : ℕ) (t : Turn) → eqb number 0 ≡ f → Woke t → Next n h g k w waking (stored (framed-turn number t))
+    unfolding framed-turn choose refused settled
+    of-turn true number t e z = rw e (next-waked _ (z .plain) (z .waked))
+    of-turn false number t e z = rw e (next-waked _ (turned-down number .plain) same-waked)
+
+    next-timeout : Next n h g k w waking (step w waking)
+    unfolding step callTimeout timedTurn timed kept framed-turn
+    next-timeout = of-turn _ (gate (w .tunnel) _ now) _ refl woke
