@@ -141,9 +141,10 @@ module _ (c d : Control) (store : List ℕ) (x : Session) (len : ℕ) (current :
       grants-at (withCounter prepared (x .«sending_key_counter» + len)) (record { id = refl; index = refl; next = refl }) refl
       (λ n p q.
       (let a : Changed (c .sessions) (put (c .sessions) prepared) store store at = changed-put (c .sessions) prepared store (p ∙ q) in
-      rw e
-      (changed-on (c .sessions) (put (c .sessions) prepared) _ store store store at a (changed-put (put (c .sessions) prepared) _ store (a .eight ∙ p ∙ q)),
-      put-at (put (c .sessions) prepared) _ store (a .eight ∙ p ∙ q))))
+      rw e (
+        changed-on (c .sessions) (put (c .sessions) prepared) _ store store store at a (changed-put (put (c .sessions) prepared) _ store (a .eight ∙ p ∙ q)),
+        put-at (put (c .sessions) prepared) _ store (a .eight ∙ p ∙ q),
+      )))
       (ap (λ (s : Sessions). s .inserted) e)
 
 -- a keepalive skipped or granted

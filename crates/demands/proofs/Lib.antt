@@ -1,9 +1,11 @@
 pub mod Changes
 pub mod Granting
 pub mod Held
+pub mod Inserting
 pub mod Judging
 pub mod Known
 pub mod Moves
 pub mod Queued
 pub mod Stepped
+pub mod Verdicts
 pub mod Waked

@@ -15,6 +15,8 @@ use Rattle.base.specs.Choice.{choose}
 use Rattle.demands.proofs.Granting.{Grants, Sends, sends-some}
 use Rattle.demands.proofs.Granting.Sends.{none, some}
 use Rattle.demands.proofs.Held.{append-nothing, SlotHeld, Held}
+use Rattle.demands.proofs.Inserting.{Inserts, inserts-initiation, inserts-response}
+use Rattle.demands.proofs.Inserting.Inserts.{nothing, responds, completes}
 use Rattle.demands.proofs.Judging.{Judged, judged-batch}
 use Rattle.demands.proofs.Judging.Judged.{turned, taken}
 use Rattle.demands.proofs.Known.{
@@ -45,11 +47,16 @@ use Rattle.sessions.specs.Sessions.{caseFound, currentOf}
 use Rattle.sessions.specs.declared.session.Session.{Session}
 use Rattle.sessions.specs.declared.sessions.Found.{Found}
 use Rattle.sessions.specs.declared.sessions.Found.the-variants.{Got}
+use Rattle.tunnel.proofs.Framed.{open-onward}
+use Rattle.tunnel.proofs.SoundCalls.{its-control}
+use Rattle.tunnel.proofs.SoundSteps.{sound-later}
 use Rattle.tunnel.proofs.Steps.{of-choice}
 use Rattle.tunnel.specs.Answer.{numberOf}
 use Rattle.tunnel.specs.Control.{Turn, refuse, done, expiredControl}
 use Rattle.tunnel.specs.Event.{caseEvent}
+use Rattle.tunnel.specs.Arguments.{initiationOutcome, openingOutcome}
 use Rattle.tunnel.specs.RingBuffer.{pushBack}
+use Rattle.tunnel.specs.Sound.{Sound}
 use Rattle.tunnel.specs.Transport.{Batched}
 use Rattle.tunnel.specs.Tunnel.{
   Called,
@@ -242,6 +249,14 @@ module _ (n : ℕ) (h : ℕ → List ℕ) (g k : List Grant) (w : World) (y : Kn
     unfolding step callReceive timedBatch timed kept framed
     next-receive = of-framed _ (gate (w .tunnel) _ now) _ refl (judged-batch (w .tunnel .control) (w .store) index id now counters kinds verdicts)
 
+  -- what a call with a store hands back, by the number of its checks
+  framed-turn : (now number : ℕ) (t : Turn) → Called
+  framed-turn now number t =
+      record {
+        answered = choose (eqb number 0) (settled (w .tunnel) now (t .out)) (refused (w .tunnel) number);
+        store = choose (eqb number 0) (t .store) (w .store);
+      }
+
   -- a waking
   module _ (jitter now : ℕ) where
     abbrev waking : Call
@@ -302,14 +317,7 @@ module _ (n : ℕ) (h : ℕ → List ℕ) (g k : List Grant) (w : World) (y : Kn
         of-choice Woke _ _ _ (record { waked = same-waked; plain = record { inserted = refl; granted = λ v. refl } })
         (record { waked = woken (w .tunnel .control) (w .store) jitter now from-here; plain = record { inserted = refl; granted = λ v. refl } })
 
-    framed-turn : (number : ℕ) (t : Turn) → Called
-    framed-turn number t =
-        record {
-          answered = choose (eqb number 0) (settled (w .tunnel) now (t .out)) (refused (w .tunnel) number);
-          store = choose (eqb number 0) (t .store) (w .store);
-        }
-
-    of-turn : (f : Bool) (number : ℕ) (t : Turn) → eqb number 0 ≡ f → Woke t → Next n h g k w waking (stored (framed-turn number t))
+    of-turn : (f : Bool) (number : ℕ) (t : Turn) → eqb number 0 ≡ f → Woke t → Next n h g k w waking (stored (framed-turn now number t))
     unfolding framed-turn choose refused settled
     of-turn true number t e z = rw e (next-waked _ (z .plain) (z .waked))
     of-turn false number t e z = rw e (next-waked _ (turned-down number .plain) same-waked)
@@ -317,3 +325,56 @@ module _ (n : ℕ) (h : ℕ → List ℕ) (g k : List Grant) (w : World) (y : Kn
     next-timeout : Next n h g k w waking (step w waking)
     unfolding step callTimeout timedTurn timed kept framed-turn
     next-timeout = of-turn _ (gate (w .tunnel) _ now) _ refl woke
+
+  -- an incoming initiation and a response
+  module _ (now : ℕ) where
+    -- what is known after a call that inserts a session or not
+    abbrev Inserted : Answer → Control → List ℕ → Type 0
+    Inserted answer c store = Known (n + inserts answer) h (g ++ (answeredGrant w answer ++ [])) (k ++ []) c store
+
+    of-inserts : (t : Turn) → n + inserts (t .out .answer) < 2 ^ 64 → Inserts (w .tunnel .control) (w .store) t
+        → Inserted (t .out .answer) (t .out .control) (t .store)
+    unfolding inserts answeredGrant caseAnswer
+    of-inserts t few (nothing i) = known-same n _ h g _ k [] _ _ (i .plain .inserted) (i .plain .granted w) refl (i .known n h g k y)
+    of-inserts t few (responds local peer e v) =
+        known-as (n + 1) _ h g _ k _ _ _ (rw e) (rw e (append-nothing g)) (append-nothing k) (v n h g k (rw e at few) y)
+    of-inserts t few (completes peer counter e v) =
+        known-as (n + 1) _ h (g ++ granting (w .tunnel .control .sessions .inserted) peer counter 1 ∷ []) _ k _ _ _ (rw e) (rw e) (append-nothing k)
+        (v n h g k (rw e at few) y)
+
+    of-inserted : (f : Bool) (number : ℕ) (t : Turn) → eqb number 0 ≡ f → (number ≡ 0 → Inserts (w .tunnel .control) (w .store) t)
+        → n + inserts (framed-turn now number t .answered .answer) < 2 ^ 64
+        → Inserted (framed-turn now number t .answered .answer) (framed-turn now number t .answered .tunnel .control) (framed-turn now number t .store)
+    unfolding framed-turn choose settled
+    of-inserted true number t e i few = rw e (of-inserts t (rw e at few) (i (eqb-true number 0 e)))
+    of-inserted false number t e i few = rw e (next-quiet _ (turned-down number))
+
+    next-initiation : (peer outcome : ℕ) → n + inserts (step w (initiation peer outcome now) .answer) < 2 ^ 64
+        → Next n h g k w (initiation peer outcome now) (step w (initiation peer outcome now))
+    unfolding step callInitiation timedTurn timed kept framed-turn committing caseBatch wokenGrant caseWaking
+    next-initiation peer outcome few =
+        of-inserted _ (gate (w .tunnel) _ now) _ refl (λ z. inserts-initiation (w .tunnel .control) (w .store) peer (initiationOutcome outcome) now) few
+
+    next-response : Sound (w .tunnel) → (receiver peer outcome : ℕ) → n + inserts (step w (response receiver peer outcome now) .answer) < 2 ^ 64
+        → Next n h g k w (response receiver peer outcome now) (step w (response receiver peer outcome now))
+    unfolding step callResponse timedTurn timed kept framed-turn committing caseBatch wokenGrant caseWaking
+    next-response s receiver peer outcome few =
+        of-inserted _ (gate (w .tunnel) _ now) _ refl
+        (λ z. inserts-response (w .tunnel .control) (w .store) receiver peer (openingOutcome outcome) now
+        (sound-later _ now (open-onward (w .tunnel) _ now _ refl z) _ (its-control (w .tunnel) s)) (y .held .size))
+        few
+
+  -- every call
+  pub next : Sound (w .tunnel) → (call : Call) → n + inserts (step w call .answer) < 2 ^ 64 → Next n h g k w call (step w call)
+  next s (start now) few = next-start now
+  next s (restart now) few = next-restart now
+  next s (send count now) few = next-send count now
+  next s (receive index id now counters kinds verdicts) few = next-receive index id now counters kinds verdicts
+  next s (look index counter now) few = next-look index counter now
+  next s (initiation peer outcome now) few = next-initiation now peer outcome few
+  next s (response receiver peer outcome now) few = next-response now s receiver peer outcome few
+  next s (cookie receiver outcome now) few = next-cookie receiver outcome now
+  next s (timeout jitter now) few = next-timeout jitter now
+  next s event few = next-event
+  next s deadline few = next-deadline
+  next s (missing index) few = next-missing index

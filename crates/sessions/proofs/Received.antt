@@ -3,12 +3,13 @@
 use mathlib.Core.Path.{_≡_, refl, ap, sym, _∙_}
 use mathlib.Core.Bool.{Bool, true, false}
 use mathlib.Core.List.{List, [], _∷_}
-use Prim.Native.Nat.{ℕ, _%_}
+use Prim.Native.Nat.{ℕ, _%_, _≤_, _<_}
 use native.Mathlib.Omega.{arith}
-use lib.Dec.{eqb}
+use lib.Dec.{leb, eqb}
 use lib.ListN.{length, set}
-use borrow.Author.Tests.{eqb-true}
+use borrow.Author.Tests.{leb-false, eqb-true}
 use Rattle.base.specs.Choice.{choose}
+use Rattle.window.specs.Window.{limit, isInvalid, willAccept, nextAfter}
 use Rattle.window.proofs.Ready.{length-wordsAfter}
 use Rattle.sessions.specs.declared.batch.Progress.{Progress}
 use Rattle.sessions.specs.declared.session.Session.{Session}
@@ -19,7 +20,7 @@ use Rattle.sessions.specs.Index.{slotIn}
 use Rattle.sessions.specs.Store.{slotOf}
 use Rattle.sessions.specs.Session.{expiredAt}
 use Rattle.sessions.specs.Sessions.{caseFound, slotAt, inSlotOf, get, put}
-use Rattle.sessions.specs.Batch.{fits, finish, finishWords, Batch, finishAll, started, batchOf, withProgress, receivingSession, Outcome, refused, untouched, answered, committedTo, commit, receive}
+use Rattle.sessions.specs.Batch.{fits, accepting, finish, finishWords, Batch, finishAll, started, batchOf, withProgress, receivingSession, Outcome, refused, untouched, answered, committedTo, commit, receive}
 use Rattle.sessions.specs.Laws.{Kept, SlotsApart}
 use Rattle.sessions.proofs.Words.{slot-long}
 use Rattle.sessions.proofs.Apart.{kept-same, kept-other, kept-insert, kept-expire}
@@ -60,9 +61,9 @@ got-index s index x e = go (inSlotOf s index) refl e
           named = ap (λ (z : Session). z .«receiving_index») (sym (c .1)) ∙ eqb-true (y .«receiving_index») index (c .0);
         }
 
-pub receiving-slot : (s : Sessions) (index id now : ℕ) (x : Session) → receivingSession s index id now ≡ Got x → InSlot s index x
+pub receiving-got : (s : Sessions) (index id now : ℕ) (x : Session) → receivingSession s index id now ≡ Got x → get s index ≡ Got x
 unfolding receivingSession caseFound choose
-receiving-slot s index id now x e = go (get s index) refl e
+receiving-got s index id now x e = go (get s index) refl e
   where
     live : (y : Session) (b d : Bool) → choose b (choose d Nothing (Got y)) Nothing ≡ Got x → y ≡ x
     live y true true q = nothing-got x q
@@ -70,9 +71,12 @@ receiving-slot s index id now x e = go (get s index) refl e
     live y false d q = nothing-got x q
 
     go : (f : Found) → get s index ≡ f
-        → caseFound f Nothing (λ (y : Session). choose (eqb (y .id) id) (choose (expiredAt y now) Nothing (Got y)) Nothing) ≡ Got x → InSlot s index x
+        → caseFound f Nothing (λ (y : Session). choose (eqb (y .id) id) (choose (expiredAt y now) Nothing (Got y)) Nothing) ≡ Got x → get s index ≡ Got x
     go Nothing p q = nothing-got x q
-    go (Got y) p q = got-index s index x (p ∙ ap Got (live y (eqb (y .id) id) (expiredAt y now) q))
+    go (Got y) p q = p ∙ ap Got (live y (eqb (y .id) id) (expiredAt y now) q)
+
+pub receiving-slot : (s : Sessions) (index id now : ℕ) (x : Session) → receivingSession s index id now ≡ Got x → InSlot s index x
+receiving-slot s index id now x e = got-index s index x (receiving-got s index id now x e)
 
 -- a batch leaves as many words as it found
 length-finish : (words : List ℕ) (p : Progress) (c k : ℕ) → length (finishWords words p c k) ≡ length words
@@ -89,6 +93,42 @@ length-batch words p [] kinds = refl
 length-batch words p (c ∷ counters) [] = refl
 length-batch words p (c ∷ counters) (k ∷ kinds) =
     length-batch (finishWords words p c k) (finish words p c k .progress) counters kinds ∙ length-finish words p c k
+
+-- a counter that a window commits is below LIMIT, so a batch keeps the window's next at most LIMIT
+below-limit : (full late old near seen : Bool)
+    → _≡_ {A = ℕ} (choose full (choose (choose late true old) 9 (choose near 0 (choose seen 10 0))) 2) 0 → late ≡ false
+unfolding choose
+below-limit true false old near seen e = refl
+below-limit true true old near seen e = absurd (omega arith)
+below-limit false late old near seen e = absurd (omega arith)
+
+accepted-below : (words : List ℕ) (next c : ℕ) → willAccept words next c ≡ 0 → c < limit
+unfolding willAccept isInvalid
+accepted-below words next c e = leb-false limit c (below-limit _ (leb limit c) _ _ _ e)
+
+next-within : (words : List ℕ) (next c : ℕ) → next ≤ limit → nextAfter words next c ≤ limit
+unfolding nextAfter choose
+next-within words next c h = go (eqb (willAccept words next c) 0) refl
+  where
+    go : (b : Bool) → eqb (willAccept words next c) 0 ≡ b → nextAfter words next c ≤ limit
+    go true e = rw e (omega (arith, accepted-below words next c (eqb-true _ 0 e)))
+    go false e = rw e h
+
+finish-within : (words : List ℕ) (p : Progress) (c k : ℕ) → p .next ≤ limit → finish words p c k .progress .next ≤ limit
+unfolding finish accepting choose
+finish-within words p c k h = go (eqb k 2) (eqb (willAccept words (p .next) c) 0) refl refl
+  where
+    go : (b d : Bool) → eqb k 2 ≡ b → eqb (willAccept words (p .next) c) 0 ≡ d → finish words p c k .progress .next ≤ limit
+    go true d e f = rw e h
+    go false true e f = rw (e, f) (next-within words (p .next) c h)
+    go false false e f = rw (e, f) h
+
+pub batch-within : (words : List ℕ) (p : Progress) (counters kinds : List ℕ) → p .next ≤ limit → finishAll words p counters kinds .progress .next ≤ limit
+unfolding finishAll
+batch-within words p [] kinds h = h
+batch-within words p (c ∷ counters) [] h = h
+batch-within words p (c ∷ counters) (k ∷ kinds) h =
+    batch-within (finishWords words p c k) (finish words p c k .progress) counters kinds (finish-within words p c k h)
 
 -- a batch keeps its session's local index, and gives it the window's next
 pub progress-index : (x : Session) (p : Progress) → withProgress x p .«receiving_index» ≡ x .«receiving_index»

@@ -148,7 +148,7 @@ interval-holds Off w = refl
 interval-holds (Every x) w = range-holds x (w .least x refl) (w .greatest x refl)
 
 -- an event without times
-no-times : (event : Event) (most : ℕ) → ((a b : ℕ) → event ≡ Established a b → ⊥) → EventWithin event most
+pub no-times : (event : Event) (most : ℕ) → ((a b : ℕ) → event ≡ Established a b → ⊥) → EventWithin event most
 no-times event most h = record { started = λ a b p. absurd (h a b p); confirmed = λ a b p. absurd (h a b p) }
 
 -- an event

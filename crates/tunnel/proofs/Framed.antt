@@ -3,20 +3,20 @@
 use mathlib.Core.Path.{_≡_, refl, ap, sym, _∙_}
 use mathlib.Core.Bool.{Bool, true, false, true≢false}
 use mathlib.Core.List.{List}
-use Prim.Native.Nat.{ℕ, _≤_, _<_}
+use Prim.Native.Nat.{ℕ, _≤_}
 use native.Mathlib.Omega.{arith}
 use lib.Dec.{ltb, eqb}
 use lib.ListN.{length}
 use borrow.Author.Tests.{ltb-false, eqb-true, eq-eqb, ne-eqb}
 use Rattle.base.specs.Choice.{choose}
-use Rattle.base.proofs.Choice.{yes-eq, no-eq, yes-call, no-call}
+use Rattle.base.proofs.Choice.{yes-eq, no-eq}
 use Rattle.sessions.specs.Session.{timeLimit}
 use Rattle.sessions.specs.Store.{Leaves, whole, zeros}
-use Rattle.tunnel.specs.Arguments.{intervalOf, openingOutcome, initiationOutcome, lacking, badOutcome, badJitter, creationNumber}
+use Rattle.tunnel.specs.Arguments.{openingOutcome, initiationOutcome, lacking, badOutcome, badJitter, creationNumber}
 use Rattle.tunnel.specs.Check.{undamaged}
-use Rattle.tunnel.specs.Control.{Turn, newControl, outcome}
+use Rattle.tunnel.specs.Control.{Turn, outcome}
 use Rattle.tunnel.specs.Deadlines.{pollTimeout}
-use Rattle.tunnel.specs.Facts.{ControlWithin, Undamaged}
+use Rattle.tunnel.specs.Facts.{ControlWithin}
 use Rattle.tunnel.specs.Messages.{handleHandshakeInitiation, handleHandshakeResponse, handleCookieReply}
 use Rattle.tunnel.specs.RingBuffer.{RingWithin}
 use Rattle.tunnel.specs.Timers.{maxJitter, greatestInterval}
@@ -42,9 +42,7 @@ use Rattle.tunnel.specs.Tunnel.{
 }
 use Rattle.tunnel.proofs.Later.{let-through}
 use Rattle.tunnel.specs.declared.answer.Answer.the-variants.{Done, Deadline}
-use Rattle.tunnel.specs.declared.control.Control.{Control}
 use Rattle.tunnel.specs.declared.control.Out.{Out}
-use Rattle.tunnel.specs.declared.timers.Interval.{Interval}
 use Rattle.tunnel.specs.declared.tunnel.Answered.{Answered}
 use Rattle.tunnel.specs.declared.tunnel.Tunnel.{Tunnel}
 use Rattle.sessions.specs.declared.session.Time.{Time}
@@ -75,6 +73,9 @@ module _ (t : Tunnel) (bad : Bool) (now number : ℕ) (n : number ≡ gate t bad
 
   pub open-ring : RingWithin (t .control .events)
   open-ring = open-within .events .ring
+
+  pub open-onward : t .greatest ≤ now
+  open-onward = ltb-false now (t .greatest) (opened .onward)
 
   pub open-now : now ≤ timeLimit
   open-now = ltb-false timeLimit now (opened .early)
@@ -207,7 +208,7 @@ module _ (t : Tunnel) (given now number : ℕ) where
     way-cookie-settled out a z o s = rw (← f) (way-settled t (eqb found 2) (eqb found 2) now number refl n out _ a z o s)
 
 -- a jitter that the checks let through
-small-jitter : (jitter : ℕ) (store : List ℕ) (late : Bool) → ltb maxJitter jitter ≡ late → badJitter jitter store ≡ false → jitter ≤ maxJitter
+pub small-jitter : (jitter : ℕ) (store : List ℕ) (late : Bool) → ltb maxJitter jitter ≡ late → badJitter jitter store ≡ false → jitter ≤ maxJitter
 unfolding badJitter choose
 small-jitter jitter store false e g = ltb-false maxJitter jitter e
 small-jitter jitter store true e g = absurd (true≢false (rw e at g))
@@ -216,18 +217,33 @@ pub open-jitter : (t : Tunnel) (jitter now number : ℕ) (store : List ℕ) (bad
     → number ≡ 0 → jitter ≤ maxJitter
 open-jitter t jitter now number store bad b n z = small-jitter jitter store (ltb maxJitter jitter) refl (sym b ∙ open-good t bad now number n z)
 
--- a creation's store that the checks let through
-fold : (late big full : Bool) → _≡_ {A = ℕ} (choose late 1 (choose big 2 (choose (choose full false true) 2 0))) 0 → full ≡ true
-unfolding choose
-fold true big full e = absurd (omega arith)
-fold false true full e = absurd (omega arith)
-fold false false true e = refl
-fold false false false e = absurd (omega arith)
+-- a creation that the checks let through
+record Unturned (late big full : Bool) : Type 0 where
+  early : late ≡ false
+  small : big ≡ false
+  whole : full ≡ true
 
-whole-store : (store : List ℕ) (keepalive now : ℕ) → creationNumber store keepalive now ≡ 0 → length store ≡ 1024
+unturned-of : (late big full : Bool) → _≡_ {A = ℕ} (choose late 1 (choose big 2 (choose (choose full false true) 2 0))) 0 → Unturned late big full
+unfolding choose
+unturned-of true big full e = absurd (omega arith)
+unturned-of false true full e = absurd (omega arith)
+unturned-of false false true e = record { early = refl; small = refl; whole = refl }
+unturned-of false false false e = absurd (omega arith)
+
+pub record GoodCreation (store : List ℕ) (interval now : ℕ) : Type 0 where
+  pub time : now ≤ timeLimit
+  pub keepalive : interval ≤ greatestInterval
+  pub words : length store ≡ 1024
+
+pub good-creation : (store : List ℕ) (keepalive now : ℕ) → creationNumber store keepalive now ≡ 0 → GoodCreation store keepalive now
 unfolding creationNumber lacking
-whole-store store keepalive now z =
-    eqb-true (length store) 1024 (fold (ltb timeLimit now) (ltb greatestInterval keepalive) (whole store) z)
+good-creation store keepalive now z =
+    let u : Unturned (ltb timeLimit now) (ltb greatestInterval keepalive) (whole store) = unturned-of _ _ _ z in
+    record {
+      time = ltb-false timeLimit now (u .early);
+      keepalive = ltb-false greatestInterval keepalive (u .small);
+      words = eqb-true (length store) 1024 (u .whole);
+    }
 
 -- creation
 module _ (store : List ℕ) (index keepalive now number : ℕ) (n : number ≡ creationNumber store keepalive now) where
@@ -239,4 +255,4 @@ module _ (store : List ℕ) (index keepalive now number : ℕ) (n : number ≡ c
   pub way-new : (fresh : Tunnel) (left : List ℕ) → number ≡ 0 → left ≡ zeros (length store) → fresh ≡ made index keepalive now
       → Leaves (answered fresh Done) (callNew store index keepalive now .answered) left (callNew store index keepalive now .store)
   unfolding callNew choose
-  way-new fresh left z l e = rw (← n, eq-eqb number 0 z) (record { out = rw e; words = l ∙ ap zeros (whole-store store keepalive now (sym n ∙ z)) })
+  way-new fresh left z l e = rw (← n, eq-eqb number 0 z) (record { out = rw e; words = l ∙ ap zeros (good-creation store keepalive now (sym n ∙ z) .words) })

@@ -62,12 +62,12 @@ never-within most = record { within = λ at p. let z : _≡_ {A = ℕ} 0 1 = cc 
 pub at-within : (time most : ℕ) → time ≤ most → TimeWithin (At time) most
 at-within time most h = record { within = λ at p. let e : time ≡ at = cc in omega arith }
 
-get-or-within : (time : Time) (now most : ℕ) → TimeWithin time most → now ≤ most → getOr time now ≤ most
+pub get-or-within : (time : Time) (now most : ℕ) → TimeWithin time most → now ≤ most → getOr time now ≤ most
 unfolding getOr caseTime
 get-or-within Never now most w h = h
 get-or-within (At x) now most w h = w .within x refl
 
-first-within : (time : Time) (now most : ℕ) → TimeWithin time most → now ≤ most → TimeWithin (At (getOr time now)) most
+pub first-within : (time : Time) (now most : ℕ) → TimeWithin time most → now ≤ most → TimeWithin (At (getOr time now)) most
 first-within time now most w h = at-within (getOr time now) most (get-or-within time now most w h)
 
 pub on-new : (interval : Interval) (now most : ℕ) → IntervalWithin interval → now ≤ most → TimersWithin (newTimers interval now) most

@@ -7,7 +7,14 @@ pub mod Later
 pub mod Loops
 pub mod MessagesWays
 pub mod Queue
+pub mod Responses
+pub mod SoundCalls
+pub mod SoundOperations
+pub mod SoundSteps
+pub mod SoundWaking
 pub mod Steps
+pub mod Stores
 pub mod TransportWays
+pub mod Wakings
 pub mod Ways
 pub mod Woken

@@ -53,6 +53,25 @@ module _ {A : Type 0} (P : A → Type 0) where
   of-reserved TooFew x f p q = p
   of-reserved (First n s) x f p q = q n s
 
+-- what emptying a slot and selecting none keep, an expiry keeps
+module _ (P : Sessions → Type 0) (empty : (s : Sessions) (slot : ℕ) → P s → P (emptied s slot)) (unset : (s : Sessions) → P s → P (withCurrent s Unset)) where
+  of-discard : (e : Expired) (slot : ℕ) → P (e .sessions) → P (discard e slot .sessions)
+  unfolding discard
+  of-discard e slot w = of-choice (λ (x : Expired). P (x .sessions)) _ _ _ (unset _ (empty (e .sessions) slot w)) (empty (e .sessions) slot w)
+
+  of-expire-slot : (e : Expiring) (slot now : ℕ) → P (e .expired .sessions) → P (expireSlot e slot now .expired .sessions)
+  unfolding expireSlot
+  of-expire-slot e slot now w = of-choice (λ (x : Expiring). P (x .expired .sessions)) _ _ _ (of-discard (e .expired) slot w) w
+
+  of-expire-first : (e : Expiring) (count now : ℕ) → P (e .expired .sessions) → P (expireFirst e count now .expired .sessions)
+  unfolding expireFirst
+  of-expire-first e zero now w = w
+  of-expire-first e (suc count) now w = of-expire-slot (expireFirst e count now) count now (of-expire-first e count now w)
+
+  pub of-expire : (s : Sessions) (store : List ℕ) (now : ℕ) → P s → P (expire s store now .expired .sessions)
+  unfolding expire
+  of-expire s store now w = of-choice (λ (x : Expiring). P (x .expired .sessions)) _ _ _ (of-expire-first _ 8 now w) w
+
 -- a slot that is filled after another one was emptied is what it was
 still-filled : (l : List Session) (i k : ℕ) → getD (set l i emptySession) k emptySession .filled ≡ true
     → getD (set l i emptySession) k emptySession ≡ getD l k emptySession
@@ -74,26 +93,8 @@ module _ (most : ℕ) where
   on-selected : (s : Sessions) (x : Selected) → SessionsWithin s most → SessionsWithin (withCurrent s x) most
   on-selected s x w = record { slots = w .slots }
 
-  on-discard : (e : Expired) (slot : ℕ) → SessionsWithin (e .sessions) most → SessionsWithin (discard e slot .sessions) most
-  unfolding discard
-  on-discard e slot w =
-      of-choice (λ (x : Expired). SessionsWithin (x .sessions) most) _ _ _ (on-selected (emptied (e .sessions) slot) _ (on-emptied (e .sessions) slot w))
-      (on-emptied (e .sessions) slot w)
-
-  on-expire-slot : (e : Expiring) (slot now : ℕ) → SessionsWithin (e .expired .sessions) most
-      → SessionsWithin (expireSlot e slot now .expired .sessions) most
-  unfolding expireSlot
-  on-expire-slot e slot now w = of-choice (λ (x : Expiring). SessionsWithin (x .expired .sessions) most) _ _ _ (on-discard (e .expired) slot w) w
-
-  on-expire-first : (e : Expiring) (count now : ℕ) → SessionsWithin (e .expired .sessions) most
-      → SessionsWithin (expireFirst e count now .expired .sessions) most
-  unfolding expireFirst
-  on-expire-first e zero now w = w
-  on-expire-first e (suc count) now w = on-expire-slot (expireFirst e count now) count now (on-expire-first e count now w)
-
   pub on-expire : (s : Sessions) (store : List ℕ) (now : ℕ) → SessionsWithin s most → SessionsWithin (expire s store now .expired .sessions) most
-  unfolding expire
-  on-expire s store now w = of-choice (λ (x : Expiring). SessionsWithin (x .expired .sessions) most) _ _ _ (on-expire-first _ 8 now w) w
+  on-expire s store now w = of-expire (λ (x : Sessions). SessionsWithin x most) on-emptied (λ x v. on-selected x Unset v) s store now w
 
 -- eight empty slots hold no session
 not-empty : (x : Session) → x ≡ emptySession → x .filled ≡ true → ⊥
@@ -101,7 +102,7 @@ unfolding emptySession
 not-empty x e f = let z : _≡_ {A = ℕ} 0 1 = cc in omega arith
 
 module _ (most : ℕ) where
-  all-empty : (s : Sessions) → SessionsWithin (withSlots s emptySlots) most
+  pub all-empty : (s : Sessions) → SessionsWithin (withSlots s emptySlots) most
   unfolding emptySlots
   all-empty s = record { slots = λ k h f. absurd (not-empty _ (getD-replicate 8 k emptySession emptySession h) f) }
 

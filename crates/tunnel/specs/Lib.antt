@@ -8,6 +8,7 @@ pub mod Facts
 pub mod Handshake
 pub mod Messages
 pub mod RingBuffer
+pub mod Sound
 pub mod Timers
 pub mod Transport
 pub mod Tunnel

@@ -3,6 +3,7 @@
 pub mod answer;
 pub mod arguments;
 pub mod check;
+pub mod claims;
 pub mod control;
 pub mod deadlines;
 pub mod event;

@@ -1,0 +1,209 @@
+-- Every call keeps a sound tunnel sound, and a creation makes one.
+-- Assumes nothing.
+use mathlib.Core.Path.{_≡_, refl, sym}
+use mathlib.Core.Bool.{Bool, true, false, true≢false}
+use mathlib.Core.List.{List}
+use Prim.Native.Nat.{ℕ, _≤_}
+use native.Mathlib.Omega.{arith}
+use lib.Dec.{eqb}
+use lib.ListN.{length}
+use borrow.Author.Tests.{eqb-true, eqb-false}
+use Rattle.base.specs.Choice.{choose}
+use Rattle.sessions.proofs.Apart.{length-zeros}
+use Rattle.sessions.specs.Session.{timeLimit}
+use Rattle.sessions.specs.Sessions.{newSessions}
+use Rattle.sessions.specs.Store.{whole}
+use Rattle.tunnel.specs.Arguments.{intervalOf, openingOutcome, initiationOutcome, lacking, badOutcome, creationNumber}
+use Rattle.tunnel.specs.Control.{newControl}
+use Rattle.tunnel.specs.Facts.{Undamaged}
+use Rattle.tunnel.specs.Timers.{IntervalWithin, greatestInterval}
+use Rattle.tunnel.specs.Tunnel.{
+  made,
+  gate,
+  timelessGate,
+  refused,
+  settled,
+  timed,
+  timeless,
+  Called,
+  timedTurn,
+  timedBatch,
+  callNew,
+  callStart,
+  callRestart,
+  callSend,
+  callReceive,
+  callLook,
+  callInitiation,
+  callResponse,
+  callCookie,
+  callTimeout,
+  callEvent,
+  callDeadline,
+  callMissing,
+}
+use Rattle.tunnel.specs.declared.answer.Answer.the-variants.{Done}
+use Rattle.tunnel.specs.declared.control.Out.{Out}
+use Rattle.tunnel.specs.declared.timers.Interval.{Interval}
+use Rattle.tunnel.specs.declared.timers.Interval.the-variants.{Off, Every}
+use Rattle.tunnel.specs.declared.tunnel.Answered.{Answered}
+use Rattle.tunnel.specs.declared.tunnel.Tunnel.{Tunnel}
+use Rattle.tunnel.proofs.Facts.{undamaged-facts, undamaged-holds}
+use Rattle.tunnel.proofs.Framed.{open-onward, open-now, open-good, small-jitter, GoodCreation, good-creation}
+use Rattle.tunnel.proofs.Kept.{never-within, on-new, on-new-handshake, on-new-ring}
+use Rattle.tunnel.proofs.Queue.{queue-of-newest}
+use Rattle.tunnel.proofs.Steps.{all-empty}
+use Rattle.tunnel.specs.Sound.{Sound, SoundLaw, CreatedLaw}
+use Rattle.tunnel.proofs.SoundSteps.{known-choice, SoundControl, eight-empty}
+use Rattle.tunnel.proofs.SoundOperations.{
+  SoundOut,
+  SoundStill,
+  unraising,
+  restart-sound,
+  start-sound,
+  send-sound,
+  batch-sound,
+  look-sound,
+  cookie-sound,
+  response-sound,
+  timeout-sound,
+  event-sound,
+  missing-sound,
+  initiation-sound,
+}
+
+-- a sound tunnel's control, and a tunnel with a sound control
+pub its-control : (t : Tunnel) → Sound t → SoundControl (t .control) (t .greatest)
+its-control t s = record { within = undamaged-facts t (s .holds) .control; eight = s .eight; sixteen = s .sixteen }
+
+tunnel-sound : (t : Tunnel) → t .greatest ≤ timeLimit → t .«last_update» ≤ t .greatest → SoundControl (t .control) (t .greatest) → Sound t
+tunnel-sound t l u w =
+    record { holds = undamaged-holds t (record { latest = l; updated = u; control = w .within }); eight = w .eight; sixteen = w .sixteen }
+
+-- the last update stays at most the greatest time
+ticks : (updates raises : Bool) (now last greatest : ℕ) → (updates ≡ true → raises ≡ true) → last ≤ greatest → greatest ≤ now
+    → choose updates now last ≤ choose raises now greatest
+unfolding choose
+ticks true true now last greatest e l m = omega arith
+ticks true false now last greatest e l m = absurd (true≢false (sym (e refl)))
+ticks false true now last greatest e l m = omega arith
+ticks false false now last greatest e l m = l
+
+-- the frames
+module _ (t : Tunnel) (s : Sound t) where
+  settled-sound : (now : ℕ) (out : Out) → now ≤ timeLimit → t .greatest ≤ now → SoundOut out (t .greatest) now → Sound (settled t now out .tunnel)
+  unfolding settled
+  settled-sound now out l m o =
+      let f : Undamaged t = undamaged-facts t (s .holds) in
+      tunnel-sound _
+      (known-choice (λ (n : ℕ). n ≤ timeLimit) (out .raises) now (t .greatest) (λ e. l) (λ e. f .latest))
+      (ticks (out .updates) (out .raises) now (t .«last_update») (t .greatest) (o .ticked) (f .updated) m)
+      (known-choice (λ (n : ℕ). SoundControl (out .control) n) (out .raises) now (t .greatest) (o .raised) (o .still))
+
+  unsettled-sound : (out : Out) → SoundStill out (t .greatest) → Sound (settled t 0 out .tunnel)
+  unfolding settled choose
+  unsettled-sound out o =
+      let f : Undamaged t = undamaged-facts t (s .holds) in
+      rw (o .unraised, o .unticked) (tunnel-sound _ (f .latest) (f .updated) (o .sound))
+
+  pub timed-sound : (bad : Bool) (now : ℕ) (out : Out) → (bad ≡ false → t .greatest ≤ now → SoundOut out (t .greatest) now)
+      → Sound (timed t bad now out .tunnel)
+  unfolding timed refused
+  timed-sound bad now out o =
+      known-choice (λ (y : Answered). Sound (y .tunnel)) (eqb (gate t bad now) 0) _ _
+      (λ e.
+      let z : gate t bad now ≡ 0 = eqb-true _ 0 e in
+      let m : t .greatest ≤ now = open-onward t bad now _ refl z in
+      settled-sound now out (open-now t bad now _ refl z) m (o (open-good t bad now _ refl z) m))
+      (λ e. s)
+
+  pub timeless-sound : (bad : Bool) (out : Out) → SoundStill out (t .greatest) → Sound (timeless t bad out .tunnel)
+  unfolding timeless refused
+  timeless-sound bad out o =
+      known-choice (λ (y : Answered). Sound (y .tunnel)) (eqb (timelessGate t bad) 0) _ _ (λ e. unsettled-sound out o) (λ e. s)
+
+-- a store that comes with a good outcome
+full-store : (wrong full : Bool) → choose wrong true (choose full false true) ≡ false → full ≡ true
+unfolding choose
+full-store true full e = absurd (true≢false e)
+full-store false true e = refl
+full-store false false e = absurd (true≢false e)
+
+good-store : (found : ℕ) (store : List ℕ) → badOutcome found store ≡ false → length store ≡ 1024
+unfolding badOutcome lacking
+good-store found store e = eqb-true (length store) 1024 (full-store (eqb found 2) (whole store) e)
+
+-- the calls
+pub sound-law : (t : Tunnel) → Sound t → SoundLaw t
+unfolding callStart callRestart callSend callReceive callLook callInitiation callResponse callCookie callTimeout callEvent callDeadline callMissing timedTurn timedBatch
+sound-law t s =
+    let w : SoundControl (t .control) (t .greatest) = its-control t s in
+    record {
+      start = λ now. timed-sound t s _ now _ (λ b l. start-sound (t .greatest) now l (t .control) w);
+      restart = λ now. timed-sound t s _ now _ (λ b l. restart-sound (t .greatest) now l (t .control) w);
+      send = λ count now. timed-sound t s _ now _ (λ b l. send-sound (t .greatest) now l (t .control) w count);
+      receive = λ store index id now counters kinds verdicts.
+          timed-sound t s _ now _ (λ b l. batch-sound (t .greatest) now l (t .control) w store index id counters kinds verdicts);
+      look = λ store index counter now. timed-sound t s _ now _ (λ b l. look-sound (t .greatest) now l (t .control) w store index counter);
+      initiation = λ store peer outcome now.
+          timed-sound t s _ now _ (λ b l. initiation-sound (t .greatest) now l (t .control) store peer (initiationOutcome outcome) w);
+      response = λ store receiver peer outcome now.
+          timed-sound t s _ now _
+          (λ b l. response-sound (t .greatest) now l (t .control) w store receiver peer (openingOutcome outcome) (good-store (openingOutcome outcome) store b));
+      cookie = λ receiver outcome now. timed-sound t s _ now _ (λ b l. cookie-sound (t .greatest) now l (t .control) w receiver (openingOutcome outcome));
+      timeout = λ store jitter now.
+          timed-sound t s _ now _ (λ b l. timeout-sound (t .greatest) now l (t .control) w store jitter (small-jitter jitter store _ refl b));
+      event = timeless-sound t s _ _ (event-sound (t .greatest) (t .control) w);
+      deadline = timeless-sound t s _ _ (unraising (t .greatest) (t .control) _ w);
+      missing = λ store index. timeless-sound t s _ _ (missing-sound (t .greatest) (t .control) w store index);
+    }
+
+-- the keepalive of a creation
+off-within : IntervalWithin Off
+off-within = record { least = λ s p. let z : _≡_ {A = ℕ} 0 1 = cc in absurd (omega arith); greatest = λ s p. let z : _≡_ {A = ℕ} 0 1 = cc in absurd (omega arith) }
+
+every-within : (seconds : ℕ) → 1 ≤ seconds → seconds ≤ greatestInterval → IntervalWithin (Every seconds)
+every-within seconds l m =
+    record { least = λ s p. let e : seconds ≡ s = cc in omega arith; greatest = λ s p. let e : seconds ≡ s = cc in omega arith }
+
+interval-within : (keepalive : ℕ) → keepalive ≤ greatestInterval → IntervalWithin (intervalOf keepalive)
+unfolding intervalOf
+interval-within keepalive m =
+    known-choice IntervalWithin (eqb keepalive 0) Off (Every keepalive) (λ e. off-within)
+    (λ e. let n : keepalive ≡ 0 → ⊥ = eqb-false keepalive 0 e in every-within keepalive (omega arith) m)
+
+-- a creation
+new-sound : (index : ℕ) (interval : Interval) (now : ℕ) → IntervalWithin interval → SoundControl (newControl index interval now) now
+unfolding newControl newSessions
+new-sound index interval now i =
+    record {
+      within = record {
+        timers = on-new interval now now i (omega arith);
+        handshake = on-new-handshake now;
+        first = never-within now;
+        sessions = all-empty now (newSessions index);
+        events = on-new-ring now;
+      };
+      eight = eight-empty;
+      sixteen = queue-of-newest .fresh .places;
+    }
+
+made-sound : (index keepalive now : ℕ) → keepalive ≤ greatestInterval → now ≤ timeLimit → Sound (made index keepalive now)
+unfolding made
+made-sound index keepalive now k l = tunnel-sound _ l (omega arith) (new-sound index (intervalOf keepalive) now (interval-within keepalive k))
+
+module _ (store : List ℕ) (index keepalive now : ℕ) where
+  good-made : creationNumber store keepalive now ≡ 0 → Sound (made index keepalive now)
+  good-made z =
+      let g : GoodCreation store keepalive now = good-creation store keepalive now z in
+      made-sound index keepalive now (g .keepalive) (g .time)
+
+  pub created-law : CreatedLaw store index keepalive now
+  unfolding callNew refused
+  created-law =
+      record {
+        tunnel = known-choice (λ (y : Called). Sound (y .answered .tunnel)) (eqb (creationNumber store keepalive now) 0) _ _
+            (λ e. good-made (eqb-true _ 0 e)) (λ e. made-sound 0 0 0 (omega arith) (omega arith));
+        words = known-choice (λ (y : Called). y .answered .answer ≡ Done → length (y .store) ≡ 1024) (eqb (creationNumber store keepalive now) 0) _ _
+            (λ e d. length-zeros 1024) (λ e d. let z : _≡_ {A = ℕ} 0 1 = cc in absurd (omega arith));
+      }

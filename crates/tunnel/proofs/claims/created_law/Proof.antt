@@ -1,0 +1,9 @@
+use Rattle.tunnel.proofs.SoundCalls.{created-law}
+use Rattle.tunnel.proofs.claims.created_law.Statement.{statement}
+use Rattle.tunnel.proofs.claims.created_law.Tie as tie
+
+returns : tie.Need-returns
+returns c = created-law
+
+pub created-law-spec : {M : Type 1} → statement M
+created-law-spec = tie.close (tie.spec returns)
