@@ -1,11 +1,14 @@
 pub mod Changes
 pub mod Granting
+pub mod Grown
 pub mod Held
 pub mod Inserting
 pub mod Judging
 pub mod Known
 pub mod Moves
 pub mod Queued
+pub mod Receiving
+pub mod Runs
 pub mod Stepped
 pub mod Verdicts
 pub mod Waked

@@ -183,7 +183,7 @@ module _ (s last : Sessions) (store left : List ℕ) (c : Carried s last store l
   no-current q = record { carried = c; current = λ x e. let z : _≡_ {A = ℕ} 0 1 = cc in absurd (omega arith) }
 
 -- an empty slot is not filled
-empty-filled : (x : Session) → x ≡ emptySession → x .filled ≡ true → ⊥
+pub empty-filled : (x : Session) → x ≡ emptySession → x .filled ≡ true → ⊥
 unfolding emptySession newSession
 empty-filled x e f = let z : _≡_ {A = ℕ} 0 1 = cc in omega arith
 

@@ -1,4 +1,5 @@
 pub mod Calls
+pub mod Grown
 pub mod Made
 pub mod Marked
 pub mod Missing
