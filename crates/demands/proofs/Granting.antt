@@ -11,7 +11,7 @@ use borrow.Author.Tests.{leb-true}
 use Rattle.base.specs.Choice.{choose}
 use Rattle.demands.proofs.Changes.{Alike, changed-on, held-marked, held-granted}
 use Rattle.demands.proofs.Held.{Held, Changed}
-use Rattle.demands.proofs.Known.{Plain, Known, Idle, idle-refused}
+use Rattle.demands.proofs.Known.{Known, plain-of, Idle, idle-refused}
 use Rattle.demands.proofs.Moves.{InSlot, current-slot, put-at, changed-put}
 use Rattle.demands.specs.Made.{caseAnswer, inserts}
 use Rattle.demands.specs.Sending.{Grant, granting, answeredGrant}
@@ -187,7 +187,7 @@ module _ (c : Control) (store : List ℕ) (x : Session) (count now : ℕ) (curre
   begun = beginEncapsulate c (preparePacketData x) now
 
   marked : Idle c store (outcome begun (No 12) true false) store
-  unfolding beginEncapsulate put preparePacketData inserts answeredGrant caseAnswer
+  unfolding beginEncapsulate put preparePacketData caseAnswer
   marked =
       record {
         known = λ n h g k w.
@@ -197,7 +197,7 @@ module _ (c : Control) (store : List ℕ) (x : Session) (count now : ℕ) (curre
                   (put-at (c .sessions) (preparePacketData x) store (w .held .eight)) refl refl;
               queue = w .queue;
             };
-        plain = record { inserted = refl; granted = λ w. refl };
+        plain = plain-of _ refl;
       }
 
   granted : (y : Session) (first : ℕ) → Reserves (preparePacketData x) count first y

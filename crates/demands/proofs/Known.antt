@@ -13,6 +13,7 @@ use Rattle.demands.specs.Calls.{World}
 use Rattle.demands.specs.Made.{caseAnswer, inserts}
 use Rattle.demands.specs.Sending.{Grant, answeredGrant}
 use Rattle.sessions.specs.Sessions.{caseFound, caseMissing, nextIndex, setCurrent}
+use Rattle.sessions.specs.declared.range.Range.{Range}
 use Rattle.sessions.specs.declared.session.Time.{Time}
 use Rattle.sessions.specs.declared.sessions.Missing.{Missing}
 use Rattle.sessions.specs.declared.sessions.Missing.the-variants.{Refused, Count}
@@ -23,7 +24,18 @@ use Rattle.tunnel.specs.Handshake.{caseCookie}
 use Rattle.tunnel.specs.Messages.{initiate, initiating, handleCookieReply, restartHandshake, startHandshake}
 use Rattle.tunnel.specs.Transport.{beginDecapsulate, confirmFirstSession}
 use Rattle.tunnel.specs.declared.answer.Answer.{Answer}
-use Rattle.tunnel.specs.declared.answer.Answer.the-variants.{Done, NoAnswer, Deadline, Report}
+use Rattle.tunnel.specs.declared.answer.Answer.the-variants.{
+  No,
+  Done,
+  NoAnswer,
+  Initiation,
+  Response,
+  Keepalive,
+  Granted,
+  Polled,
+  Deadline,
+  Report,
+}
 use Rattle.tunnel.specs.declared.control.Control.{Control}
 use Rattle.tunnel.specs.declared.control.Out.{Out}
 use Rattle.tunnel.specs.declared.event.Event.{Event}
@@ -41,6 +53,21 @@ pub record Known (n : ℕ) (h : ℕ → List ℕ) (g k : List Grant) (c : Contro
 pub record Plain (answer : Answer) : Type 0 where
   pub inserted : inserts answer ≡ 0
   pub granted : (w : World) → answeredGrant w answer ≡ []
+  pub ungranted : (range : Range) → answer ≡ Granted range → ⊥
+
+-- every answer is one but a granted range, a keepalive and a response
+pub plain-of : (answer : Answer) → _≡_ {A = ℕ} (caseAnswer answer (λ range. 1) (λ peer counter. 1) 1 0) 0 → Plain answer
+unfolding inserts answeredGrant caseAnswer
+plain-of (Granted range) e = absurd (omega (arith, e))
+plain-of (Keepalive peer counter) e = absurd (omega (arith, e))
+plain-of (Response local peer) e = absurd (omega (arith, e))
+plain-of (No number) e = record { inserted = refl; granted = λ w. refl; ungranted = λ r p. (let z : _≡_ {A = ℕ} 0 1 = cc in omega arith) }
+plain-of Done e = record { inserted = refl; granted = λ w. refl; ungranted = λ r p. (let z : _≡_ {A = ℕ} 0 1 = cc in omega arith) }
+plain-of NoAnswer e = record { inserted = refl; granted = λ w. refl; ungranted = λ r p. (let z : _≡_ {A = ℕ} 0 1 = cc in omega arith) }
+plain-of (Initiation local) e = record { inserted = refl; granted = λ w. refl; ungranted = λ r p. (let z : _≡_ {A = ℕ} 0 1 = cc in omega arith) }
+plain-of (Polled polled) e = record { inserted = refl; granted = λ w. refl; ungranted = λ r p. (let z : _≡_ {A = ℕ} 0 1 = cc in omega arith) }
+plain-of (Deadline time) e = record { inserted = refl; granted = λ w. refl; ungranted = λ r p. (let z : _≡_ {A = ℕ} 0 1 = cc in omega arith) }
+plain-of (Report count) e = record { inserted = refl; granted = λ w. refl; ungranted = λ r p. (let z : _≡_ {A = ℕ} 0 1 = cc in omega arith) }
 
 -- the same insertions and grants, said otherwise
 pub known-as : (n m : ℕ) (h : ℕ → List ℕ) (g f k l : List Grant) (c : Control) (store : List ℕ) → m ≡ n → f ≡ g → l ≡ k
@@ -87,21 +114,21 @@ module _ (c : Control) (store : List ℕ) where
   unmoved answer raises updates p = record { known = λ n h g k w. w; plain = p }
 
   pub idle-refused : (number : ℕ) → Idle c store (refuse c number) store
-  unfolding refuse inserts answeredGrant caseAnswer
-  idle-refused number = unmoved _ _ _ (record { inserted = refl; granted = λ w. refl })
+  unfolding refuse caseAnswer
+  idle-refused number = unmoved _ _ _ (plain-of _ refl)
 
   idle-nothing : Idle c store (done c NoAnswer) store
-  unfolding done inserts answeredGrant caseAnswer
-  idle-nothing = unmoved _ _ _ (record { inserted = refl; granted = λ w. refl })
+  unfolding done caseAnswer
+  idle-nothing = unmoved _ _ _ (plain-of _ refl)
 
   -- starting and restarting
   pub idle-restart : (now : ℕ) → Idle c store (restartHandshake c now) store
-  unfolding restartHandshake done initiate initiating inserts answeredGrant caseAnswer
+  unfolding restartHandshake done initiate initiating caseAnswer
   idle-restart now =
       of-choice (λ (o : Out). Idle c store o store) _ _ _ idle-nothing
       (record {
         known = λ n h g k w. known-carried n h g k c _ store store (carried-next (c .sessions) store) refl w;
-        plain = record { inserted = refl; granted = λ w. refl };
+        plain = plain-of _ refl;
       })
 
   pub idle-start : (now : ℕ) → Idle c store (startHandshake c now) store
@@ -110,21 +137,21 @@ module _ (c : Control) (store : List ℕ) where
 
   -- the early look
   pub idle-look : (index counter now : ℕ) → Idle c store (beginDecapsulate c store index counter now) store
-  unfolding beginDecapsulate inserts answeredGrant caseAnswer
+  unfolding beginDecapsulate caseAnswer
   idle-look index counter now =
       of-choice (λ (o : Out). Idle c store o store) _ _ _ (idle-refused 11)
       (of-found (λ (o : Out). Idle c store o store) _ _ _ (idle-refused 12)
       (λ session. of-choice (λ (o : Out). Idle c store o store) _ _ _ (idle-refused 12)
-      (of-choice (λ (o : Out). Idle c store o store) _ _ _ (unmoved _ _ _ (record { inserted = refl; granted = λ w. refl })) (idle-refused _))))
+      (of-choice (λ (o : Out). Idle c store o store) _ _ _ (unmoved _ _ _ (plain-of _ refl)) (idle-refused _))))
 
   -- a cookie reply
   of-cookie : (reply : Cookie) → Idle c store (caseCookie reply (λ number. refuse c number) (λ handshake. done (withHandshake c handshake) Done)) store
-  unfolding caseCookie done inserts answeredGrant caseAnswer
+  unfolding caseCookie done caseAnswer
   of-cookie (Unusable number) = idle-refused number
   of-cookie (Stored handshake) =
       record {
         known = λ n h g k w. record { held = w .held; queue = w .queue };
-        plain = record { inserted = refl; granted = λ w. refl };
+        plain = plain-of _ refl;
       }
 
   pub idle-cookie : (receiver outcome now : ℕ) → Idle c store (handleCookieReply c receiver outcome now) store
@@ -133,23 +160,23 @@ module _ (c : Control) (store : List ℕ) where
 
   -- the oldest event
   pub idle-event : Idle c store (pollEvent c) store
-  unfolding pollEvent inserts answeredGrant caseAnswer
+  unfolding pollEvent caseAnswer
   idle-event =
       record {
         known = λ n h g k w. record { held = w .held; queue = queue-pop k (c .events) (w .queue) };
-        plain = record { inserted = refl; granted = λ w. refl };
+        plain = plain-of _ refl;
       }
 
   -- the deadline
   pub idle-deadline : (time : Time) → Idle c store (outcome c (Deadline time) false false) store
-  unfolding inserts answeredGrant caseAnswer
-  idle-deadline time = unmoved _ _ _ (record { inserted = refl; granted = λ w. refl })
+  unfolding caseAnswer
+  idle-deadline time = unmoved _ _ _ (plain-of _ refl)
 
   -- the missing report
   of-missing : (found : Missing) → Idle c store (caseMissing found (λ number. refuse c number) (λ count. outcome c (Report count) false false)) store
-  unfolding caseMissing inserts answeredGrant caseAnswer
+  unfolding caseMissing caseAnswer
   of-missing (Refused number) = idle-refused number
-  of-missing (Count count) = unmoved _ _ _ (record { inserted = refl; granted = λ w. refl })
+  of-missing (Count count) = unmoved _ _ _ (plain-of _ refl)
 
   pub idle-missing : (index : ℕ) → Idle c store (missingReport c store index) store
   unfolding missingReport

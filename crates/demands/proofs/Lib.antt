@@ -5,10 +5,12 @@ pub mod Held
 pub mod Inserting
 pub mod Judging
 pub mod Known
+pub mod Missing
 pub mod Moves
 pub mod Queued
 pub mod Receiving
 pub mod Runs
+pub mod Sending
 pub mod Stepped
 pub mod Verdicts
 pub mod Waked

@@ -22,6 +22,7 @@ use Rattle.demands.proofs.Judging.Judged.{turned, taken}
 use Rattle.demands.proofs.Known.{
   Known,
   Plain,
+  plain-of,
   known-as,
   known-same,
   Idle,
@@ -262,7 +263,7 @@ module _ (n : ℕ) (h : ℕ → List ℕ) (g k : List Grant) (w : World) (y : Kn
     abbrev waking : Call
     waking = timeout jitter now
 
-    abbrev put : Reply → Event
+    abbrev pub put : Reply → Event
     put reply = putLast (w .tunnel .control .events) (reply .world .tunnel .control .events)
 
     ungranted : (reply : Reply) (e : Event) → put reply ≡ e → keepaliveBy (currentIn w) e ≡ [] → wokenGrant w waking reply ≡ []
@@ -279,7 +280,7 @@ module _ (n : ℕ) (h : ℕ → List ℕ) (g k : List Grant) (w : World) (y : Kn
     empty-none = refl
 
     -- the events that a waking puts
-    pushed : (reply : Reply) (e : Event) → reply .world .tunnel .control .events ≡ pushBack (w .tunnel .control .events) e → put reply ≡ e
+    pub pushed : (reply : Reply) (e : Event) → reply .world .tunnel .control .events ≡ pushBack (w .tunnel .control .events) e → put reply ≡ e
     pushed reply e p = rw p (put-pushed (w .tunnel .control .events) e (y .queue .ring))
 
     next-waked : (reply : Reply) → Plain (reply .answer) → Waked (w .tunnel .control) (w .store) (reply .world .tunnel .control) (reply .world .store)
@@ -307,24 +308,31 @@ module _ (n : ℕ) (h : ℕ → List ℕ) (g k : List Grant) (w : World) (y : Kn
     same-waked = silent (λ m i f z. z) refl
 
     -- what a waking does, with its answer
-    record Woke (t : Turn) : Type 0 where
-      waked : Waked (w .tunnel .control) (w .store) (t .out .control) (t .store)
-      plain : Plain (t .out .answer)
+    pub record Woke (reply : Reply) : Type 0 where
+      pub waked : Waked (w .tunnel .control) (w .store) (reply .world .tunnel .control) (reply .world .store)
+      pub plain : Plain (reply .answer)
 
-    woke : Woke (handleTimeout (w .tunnel .control) (w .store) jitter now)
-    unfolding handleTimeout done inserts answeredGrant caseAnswer
+    -- a waking that the checks let through
+    abbrev let-through : Turn → Reply
+    let-through t = stored (record { answered = settled (w .tunnel) now (t .out); store = t .store })
+
+    woke : Woke (let-through (handleTimeout (w .tunnel .control) (w .store) jitter now))
+    unfolding handleTimeout settled done caseAnswer
     woke =
-        of-choice Woke _ _ _ (record { waked = same-waked; plain = record { inserted = refl; granted = λ v. refl } })
-        (record { waked = woken (w .tunnel .control) (w .store) jitter now from-here; plain = record { inserted = refl; granted = λ v. refl } })
+        of-choice (λ (t : Turn). Woke (let-through t)) _ _ _ (record { waked = same-waked; plain = plain-of _ refl })
+        (record { waked = woken (w .tunnel .control) (w .store) jitter now from-here; plain = plain-of _ refl })
 
-    of-turn : (f : Bool) (number : ℕ) (t : Turn) → eqb number 0 ≡ f → Woke t → Next n h g k w waking (stored (framed-turn now number t))
-    unfolding framed-turn choose refused settled
-    of-turn true number t e z = rw e (next-waked _ (z .plain) (z .waked))
-    of-turn false number t e z = rw e (next-waked _ (turned-down number .plain) same-waked)
+    of-turn : (f : Bool) (number : ℕ) (t : Turn) → eqb number 0 ≡ f → Woke (let-through t) → Woke (stored (framed-turn now number t))
+    unfolding framed-turn choose refused
+    of-turn true number t e z = rw e z
+    of-turn false number t e z = rw e (record { waked = same-waked; plain = turned-down number .plain })
+
+    pub woke-step : Woke (step w waking)
+    unfolding step callTimeout timedTurn timed kept framed-turn
+    woke-step = of-turn _ (gate (w .tunnel) _ now) _ refl woke
 
     next-timeout : Next n h g k w waking (step w waking)
-    unfolding step callTimeout timedTurn timed kept framed-turn
-    next-timeout = of-turn _ (gate (w .tunnel) _ now) _ refl woke
+    next-timeout = next-waked (step w waking) (woke-step .plain) (woke-step .waked)
 
   -- an incoming initiation and a response
   module _ (now : ℕ) where

@@ -7,9 +7,10 @@ use lib.Dec.{eqb}
 use lib.ListN.{length}
 use Rattle.base.specs.Choice.{choose}
 use Rattle.demands.specs.Calls.{Call, World, Reply, step, after, Creation, created, Good}
-use Rattle.demands.specs.Calls.Call.{send, event}
+use Rattle.demands.specs.Calls.Call.{send, timeout, event}
 use Rattle.demands.specs.Made.{Made, made, caseWaking, caseAnswer, insertions}
 use Rattle.sessions.specs.Sessions.{caseFound, currentOf}
+use Rattle.sessions.specs.declared.range.Range.{Range}
 use Rattle.sessions.specs.declared.session.Session.{Session}
 use Rattle.sessions.specs.declared.sessions.Found.{Found}
 use Rattle.sessions.specs.declared.sessions.Found.the-variants.{Got}
@@ -44,6 +45,10 @@ still before left = choose (eqb (left .head) (before .head)) (eqb (left .len) (b
 -- the event that a call put last into the ring, or the empty one
 unfoldable pub putLast : RingBuffer → RingBuffer → Event
 putLast before left = choose (still before left) Empty (eventAt (left .slots) (placeOf (left .head) (left .len - 1)))
+
+-- the event that a call puts last into the ring
+abbrev pub putBy : World → Call → Event
+putBy w call = putLast (w .tunnel .control .events) (step w call .world .tunnel .control .events)
 
 -- the grant of a keepalive event, of this session
 unfoldable pub keepaliveBy : Found → Event → List Grant
@@ -97,9 +102,11 @@ pub record SendingLaw (w : World) (calls : List Call) : Type 0 where
   pub counts : (id : ℕ) → countersOf id (grants (made w calls)) ≡ upFrom 0 (length (countersOf id (grants (made w calls))))
   -- all below LIMIT
   pub below : (id : ℕ) → length (countersOf id (grants (made w calls))) ≤ limit
-  -- a send that grants has a current session, whose peer it names
-  pub sends : (count now peer first length : ℕ)
-      → step (after w calls) (send count now) .answer ≡ Granted (record { peer = peer; first = first; length = length })
+  -- each is granted by a current session, to its peer: those of a send
+  pub sends : (count now : ℕ) (range : Range) → step (after w calls) (send count now) .answer ≡ Granted range
+      → (session : Session) × (currentIn (after w calls) ≡ Got session) × (session .«sending_index» ≡ range .peer)
+  -- and that of a waking
+  pub wakes : (jitter now peer counter : ℕ) → putBy (after w calls) (timeout jitter now) ≡ SendKeepalive peer counter
       → (session : Session) × (currentIn (after w calls) ≡ Got session) × (session .«sending_index» ≡ peer)
   -- and every keepalive that event answers was granted by a waking
   pub polled : (peer counter : ℕ) → step (after w calls) event .answer ≡ Polled (SendKeepalive peer counter) → Among peer counter (wokenGrants (made w calls))

@@ -1,0 +1,67 @@
+-- Demand 2, the missing report: the count of a filled slot is that of its session's history.
+-- Assumes nothing.
+use mathlib.Core.Path.{_≡_, refl, ap, sym, _∙_}
+use mathlib.Core.Bool.{Bool, true, false}
+use mathlib.Core.List.{List}
+use Prim.Native.Nat.{ℕ, _-_, _<_}
+use lib.Dec.{eqb}
+use lib.ListN.{length}
+use borrow.Author.Tests.{eq-eqb}
+use Rattle.base.specs.Choice.{choose}
+use Rattle.demands.proofs.Grown.{sound-after, sound-created}
+use Rattle.demands.proofs.Held.{SlotHeld}
+use Rattle.demands.proofs.Known.{Known}
+use Rattle.demands.proofs.Runs.{known-run}
+use Rattle.demands.specs.Calls.{World, step, after, created}
+use Rattle.demands.specs.Calls.Call.{missing}
+use Rattle.demands.specs.Missing.{MissingReport}
+use Rattle.demands.specs.Sending.{Grant}
+use Rattle.sessions.proofs.Judged.{missing-law}
+use Rattle.sessions.specs.Index.{slotIn}
+use Rattle.sessions.specs.Sessions.{caseFound, caseMissing, slotAt, inSlotOf, get}
+use Rattle.sessions.specs.Sessions as sessions
+use Rattle.sessions.specs.Store.{whole, slotOf, missingOf}
+use Rattle.sessions.specs.declared.session.Session.{Session}
+use Rattle.sessions.specs.declared.sessions.Found.the-variants.{Got}
+use Rattle.sessions.specs.declared.sessions.Missing.the-variants.{Count}
+use Rattle.sessions.specs.declared.sessions.Sessions.{Sessions}
+use Rattle.tunnel.specs.Arguments.{lacking}
+use Rattle.tunnel.specs.Control.{missingReport}
+use Rattle.tunnel.specs.Sound.{Sound}
+use Rattle.tunnel.specs.Tunnel.{timelessGate, settled, timeless, callMissing}
+use Rattle.tunnel.specs.declared.answer.Answer.the-variants.{Report}
+use Rattle.tunnel.specs.declared.control.Out.{Out}
+use Rattle.window.specs.History.{amongLast}
+
+module _ (w : World) (n : ℕ) (h : ℕ → List ℕ) (g k : List Grant) (y : Known n h g k (w .tunnel .control) (w .store)) (sound : Sound (w .tunnel))
+    (slot : ℕ) (low : slot < 8) (filled : slotAt (w .tunnel .control .sessions) slot .filled ≡ true) where
+  abbrev s : Sessions
+  s = w .tunnel .control .sessions
+
+  abbrev x : Session
+  x = slotAt s slot
+
+  its : SlotHeld n h g slot x (slotOf (w .store) slot)
+  its = y .held .slots slot low filled
+
+  found : get s (x .«receiving_index») ≡ Got x
+  unfolding get inSlotOf caseFound choose
+  found = rw (its .placed, filled, eq-eqb (x .«receiving_index») (x .«receiving_index») refl)
+
+  counted : sessions.missing s (w .store) (x .«receiving_index») ≡ Count (8192 - amongLast (h (x .id)))
+  unfolding sessions.missing caseFound choose
+  counted =
+      rw (eq-eqb (length (w .store)) 1024 (y .held .size), found, its .placed)
+      (ap Count (missing-law (h (x .id)) (slotOf (w .store) slot) (x .next) (its .stands) .counts))
+
+  passes : timelessGate (w .tunnel) (lacking (w .store)) ≡ 0
+  unfolding timelessGate lacking choose
+  passes = rw (eq-eqb (length (w .store)) 1024 (y .held .size), sound .holds)
+
+  reported : step w (missing (x .«receiving_index»)) .answer ≡ Report (8192 - amongLast (h (x .id)))
+  unfolding step callMissing timeless settled missingReport caseMissing choose
+  reported = rw (passes, counted)
+
+pub missing-report : MissingReport
+missing-report c good calls few slot low filled =
+    reported (after (created c) calls) _ _ _ _ (known-run c good calls few) (sound-after calls (created c) (sound-created c)) slot low filled
