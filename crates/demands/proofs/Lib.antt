@@ -1,4 +1,5 @@
 pub mod Changes
+pub mod Example
 pub mod Granting
 pub mod Grown
 pub mod Held

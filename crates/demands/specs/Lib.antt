@@ -1,4 +1,5 @@
 pub mod Calls
+pub mod Example
 pub mod Grown
 pub mod Made
 pub mod Marked

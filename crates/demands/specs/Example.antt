@@ -1,0 +1,61 @@
+-- A list of calls of which demand 2's statements speak, so that what they ask can be met: a handshake, data sent, a batch with a counter twice,
+-- a jump that clears the window, a keepalive queued by a waking and polled; then a batch for the live session.
+use mathlib.Core.Path.{_≡_}
+use mathlib.Core.List.{List, [], _∷_}
+use Prim.Native.Nat.{ℕ, _^_, _<_}
+use Rattle.demands.specs.Calls.{Call, World, step, after, Creation, created, Good}
+use Rattle.demands.specs.Calls.Call.{start, send, receive, response, timeout, event, missing}
+use Rattle.demands.specs.Made.{made, insertions}
+use Rattle.demands.specs.Receiving.{historyOf, Batch, receiving, Live}
+use Rattle.demands.specs.Sending.{wokenGrants, granting, grants, countersOf}
+use Rattle.sessions.specs.Store.{zeros}
+use Rattle.tunnel.specs.declared.answer.Answer.the-variants.{Polled, Report}
+use Rattle.tunnel.specs.declared.event.Event.the-variants.{SendKeepalive}
+
+-- index 256, no persistent keepalive, time 0
+unfoldable pub creation : Creation
+creation = record { store = zeros 1024; index = 256; keepalive = 0; now = 0 }
+
+-- the calls
+unfoldable pub calls : List Call
+calls =
+    -- session 0, whose peer is 9: its keepalive has counter 0
+    start 0 ∷ response 257 9 0 1000000
+    -- counters 1, 2 and 3 to data
+    ∷ send 3 2000000
+    -- 0 and 5 commit, 0 again is a replay
+    ∷ receive 257 0 3000000 (0 ∷ 5 ∷ 0 ∷ []) (0 ∷ 0 ∷ 0 ∷ []) (0 ∷ 0 ∷ 0 ∷ [])
+    -- 8,960 commits and clears the window
+    ∷ receive 257 0 4000000 (8960 ∷ []) (0 ∷ []) (0 ∷ [])
+    -- ten seconds after data without a reply: a keepalive with counter 4
+    ∷ timeout 0 10004000000
+    -- the confirmation of the session is polled
+    ∷ event ∷ []
+
+-- the world after the calls
+unfoldable pub here : World
+here = after (created creation) calls
+
+-- one counter too far behind, one committed, one at the window's edge, and a message that failed to open
+unfoldable pub batch : Batch
+batch =
+    record {
+      index = 257;
+      id = 0;
+      now = 11000000000;
+      counters = 768 ∷ 8960 ∷ 769 ∷ 8961 ∷ [];
+      kinds = 0 ∷ 0 ∷ 1 ∷ 2 ∷ [];
+      verdicts = 0 ∷ 0 ∷ 0 ∷ 0 ∷ [];
+    }
+
+-- The premises hold, and the session's history, grants, verdicts, keepalive and missing report are these.
+pub record ExampleLaw : Type 0 where
+  pub good : Good creation
+  pub few : insertions (made (created creation) calls) < 2 ^ 64
+  pub live : Live here batch 1
+  pub history : historyOf 0 (created creation) calls ≡ 8960 ∷ 5 ∷ 0 ∷ []
+  pub verdicts : step here (receiving batch) .verdicts ≡ 9 ∷ 10 ∷ 0 ∷ 7 ∷ []
+  pub counters : countersOf 0 (grants (made (created creation) calls)) ≡ 0 ∷ 1 ∷ 2 ∷ 3 ∷ 4 ∷ []
+  pub keepalives : wokenGrants (made (created creation) calls) ≡ granting 0 9 4 1 ∷ []
+  pub polled : step here event .answer ≡ Polled (SendKeepalive 9 4)
+  pub report : step here (missing 257) .answer ≡ Report 8191
