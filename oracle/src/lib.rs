@@ -12,6 +12,7 @@ pub use script::{Call, Lines, MAX_LINE, Opening, read};
 pub use window::Window;
 
 mod window;
+mod written;
 
 // The published files that need no accessor.
 include!(concat!(env!("OUT_DIR"), "/modules.rs"));

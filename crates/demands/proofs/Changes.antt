@@ -2,28 +2,14 @@
 -- inserted there.
 -- Assumes nothing.
 use mathlib.Core.Path.{_≡_, refl, ap, sym, _∙_}
-use mathlib.Core.Bool.{Bool, true, false}
+use mathlib.Core.Bool.{true}
 use mathlib.Core.List.{List, [], _∷_, _++_}
 use Prim.Native.Nat.{ℕ, _+_, _%_, _^_, _≤_, _<_}
-use native.Mathlib.Decide.{ℕ-discrete}
 use native.Mathlib.Omega.{arith}
-use lib.Dec.{eqb}
 use lib.ListN.{length, length-set}
-use borrow.Author.Tests.{eq-eqb, ne-eqb, eqb-true}
+use borrow.Author.Tests.{eq-eqb}
 use Rattle.base.specs.Choice.{choose}
-use Rattle.demands.proofs.Held.{
-  from-on,
-  long-from,
-  counters-on,
-  counters-own,
-  counters-other,
-  append-nothing,
-  Runs,
-  SlotHeld,
-  Held,
-  Changed,
-  held-changed,
-}
+use Rattle.demands.proofs.Held.{from-on, long-from, counters-on, counters-own, counters-other, append-nothing, Runs, SlotHeld, Held, Changed, held-changed}
 use Rattle.demands.proofs.Moves.{InSlot, received-slot, put-at, changed-put}
 use Rattle.demands.specs.Sending.{Grant, granting, upFrom, countersOf}
 use Rattle.sessions.proofs.Apart.{length-zeros, length-put}
@@ -36,8 +22,7 @@ use Rattle.sessions.specs.Index.{slotIn}
 use Rattle.sessions.specs.Laws.{Kept}
 use Rattle.sessions.specs.Session.{withId}
 use Rattle.sessions.specs.Sessions.{caseFound, slotAt, put, inserting, insert}
-use Rattle.sessions.specs.Store.{slotOf, putSlot, zeros, whole}
-use Rattle.sessions.specs.declared.batch.Progress.{Progress}
+use Rattle.sessions.specs.Store.{slotOf, putSlot, zeros}
 use Rattle.sessions.specs.declared.session.Session.{Session}
 use Rattle.sessions.specs.declared.sessions.Found.the-variants.{Got}
 use Rattle.sessions.specs.declared.sessions.Sessions.{Sessions}
@@ -131,10 +116,6 @@ module _ (n : ℕ) (h : ℕ → List ℕ) (g : List Grant) (s : Sessions) (store
   inserted : insert s store x .sessions ≡ inserting s x
   unfolding insert choose
   inserted = rw (eq-eqb (length store) 1024 (w .size))
-
-  slots-of : inserting s x .slots ≡ put s (withId x (s .inserted)) .slots
-  unfolding inserting
-  slots-of = refl
 
   pub inserted-at : slotAt (insert s store x .sessions) slot ≡ withId x (s .inserted)
   unfolding inserting

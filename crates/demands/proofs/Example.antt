@@ -1,16 +1,11 @@
 -- The example's premises hold, and what comes of it is computed.
 -- Assumes nothing.
 use mathlib.Core.Path.{_≡_, refl}
-use mathlib.Core.Bool.{true, false}
-use mathlib.Core.List.{List, [], _∷_}
-use Prim.Native.Nat.{ℕ, _-_, _^_, _<_}
 use native.Mathlib.Omega.{arith}
-use Rattle.demands.specs.Calls.{step, created, Good}
-use Rattle.demands.specs.Calls.Call.{event, missing}
-use Rattle.demands.specs.Example.{here, ExampleLaw}
+use Rattle.demands.specs.Calls.{created}
+use Rattle.demands.specs.Calls.Call.{event}
+use Rattle.demands.specs.Example.{ExampleLaw}
 use Rattle.demands.specs.Made.{insertions}
-use Rattle.demands.specs.Receiving.{historyOf, Live}
-use Rattle.demands.specs.Sending.{granting}
 use lib.Count as count
 use Rattle.base.specs.Bits as bits
 use Rattle.base.specs.Choice as choice

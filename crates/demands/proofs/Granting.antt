@@ -1,43 +1,31 @@
 -- What is known after the operations that grant counters of the current session: a send, and a keepalive.
 -- Assumes nothing.
-use mathlib.Core.Path.{_≡_, refl, ap, sym, _∙_}
+use mathlib.Core.Path.{_≡_, refl, ap, _∙_}
 use mathlib.Core.Bool.{Bool, true, false}
 use mathlib.Core.List.{List, [], _∷_, _++_}
-use Prim.Native.Nat.{ℕ, _+_, _≤_, _<_}
+use Prim.Native.Nat.{ℕ, _+_, _≤_}
 use native.Mathlib.Omega.{arith}
 use lib.Dec.{leb}
 use lib.ListN.{length}
 use borrow.Author.Tests.{leb-true}
 use Rattle.base.specs.Choice.{choose}
 use Rattle.demands.proofs.Changes.{Alike, changed-on, held-marked, held-granted}
-use Rattle.demands.proofs.Held.{Held, Changed}
+use Rattle.demands.proofs.Held.{Changed}
 use Rattle.demands.proofs.Known.{Known, plain-of, Idle, idle-refused}
 use Rattle.demands.proofs.Moves.{InSlot, current-slot, put-at, changed-put}
-use Rattle.demands.specs.Made.{caseAnswer, inserts}
-use Rattle.demands.specs.Sending.{Grant, granting, answeredGrant}
+use Rattle.demands.specs.Made.{caseAnswer}
+use Rattle.demands.specs.Sending.{Grant, granting}
 use Rattle.sessions.specs.Index.{slotIn}
 use Rattle.sessions.specs.Range.{range}
-use Rattle.sessions.specs.Session.{
-  caseRole,
-  caseReserved,
-  withCounter,
-  reserveCounters,
-  preparePacketData,
-  expiredAt,
-  shouldUseAt,
-  sendingCounterExhausted,
-}
-use Rattle.sessions.specs.Sessions.{caseFound, slotAt, put, currentOf, usable, sendingSession}
-use Rattle.sessions.specs.declared.session.Reserved.{Reserved}
+use Rattle.sessions.specs.Session.{withCounter, reserveCounters, preparePacketData}
+use Rattle.sessions.specs.Sessions.{slotAt, put, currentOf, sendingSession}
 use Rattle.sessions.specs.declared.session.Reserved.the-variants.{TooFew, First}
-use Rattle.sessions.specs.declared.session.Role.{Role}
-use Rattle.sessions.specs.declared.session.Role.the-variants.{Initiator, Responder}
 use Rattle.sessions.specs.declared.session.Session.{Session}
-use Rattle.sessions.specs.declared.sessions.Found.{Found}
-use Rattle.sessions.specs.declared.sessions.Found.the-variants.{Nothing, Got}
+use Rattle.sessions.specs.declared.sessions.Found.the-variants.{Got}
 use Rattle.sessions.specs.declared.sessions.Sessions.{Sessions}
+use Rattle.tunnel.proofs.SoundSteps.{known-found, known-reserved, sending-current}
 use Rattle.tunnel.proofs.Steps.{of-choice}
-use Rattle.tunnel.specs.Control.{outcome, refuse, done, withSessions, withTimers}
+use Rattle.tunnel.specs.Control.{outcome, done, withSessions, withTimers}
 use Rattle.tunnel.specs.Timers.{tickLastPacketSent}
 use Rattle.tunnel.specs.Transport.{beginEncapsulate, finishEncapsulate, grant, send, encrypted, encryptKeepalive}
 use Rattle.tunnel.specs.declared.answer.Answer.the-variants.{No, Granted}
@@ -46,32 +34,6 @@ use Rattle.tunnel.specs.declared.control.Out.{Out}
 use Rattle.tunnel.specs.declared.transport.Datagram.the-variants.{Skipped, Sent}
 use Rattle.tunnel.specs.declared.transport.Encrypted.{Encrypted}
 use Rattle.window.specs.Window.{limit}
-
--- the session that a sending finds is the current one
-of-picked : (f : Bool) (role : Role) (x y : Session) → choose f (Got x) (caseRole role Nothing (Got x)) ≡ Got y → x ≡ y
-unfolding choose caseRole
-of-picked true role x y p = cc
-of-picked false Initiator x y p = let z : _≡_ {A = ℕ} 0 1 = cc in absurd (omega arith)
-of-picked false Responder x y p = cc
-
-of-left : (a b : Bool) (found : Found) (y : Session) → choose a Nothing (choose b Nothing found) ≡ Got y → found ≡ Got y
-unfolding choose
-of-left true b found y p = let z : _≡_ {A = ℕ} 0 1 = cc in absurd (omega arith)
-of-left false true found y p = let z : _≡_ {A = ℕ} 0 1 = cc in absurd (omega arith)
-of-left false false found y p = p
-
-of-current : (found : Found) (now : ℕ) (y : Session)
-    → caseFound found Nothing
-    (λ session. choose (sendingCounterExhausted session) Nothing (choose (expiredAt session now) Nothing (usable session now)))
-    ≡ Got y
-    → found ≡ Got y
-unfolding caseFound usable
-of-current Nothing now y p = p
-of-current (Got x) now y p = ap Got (of-picked (shouldUseAt x now) (x .role) x y (of-left _ _ _ y p))
-
-pub sending-current : (s : Sessions) (now : ℕ) (y : Session) → sendingSession s now ≡ Got y → currentOf s ≡ Got y
-unfolding sendingSession
-sending-current s now y p = of-current (currentOf s) now y p
 
 -- what a reservation grants
 pub record Reserves (x : Session) (len first : ℕ) (y : Session) : Type 0 where
@@ -152,16 +114,6 @@ pub data Encrypts (c : Control) (store : List ℕ) (e : Encrypted) : Type 0 wher
   skips : e .control ≡ c → e .keepalive ≡ Skipped → Encrypts c store e
   sends : (x : Session) (peer first : ℕ) → Grants c store (e .control) peer first 1 x → e .keepalive ≡ Sent peer first → e .control .events ≡ c .events
       → Encrypts c store e
-
-known-found : {A : Type 0} (P : A → Type 0) (found : Found) (x : A) (f : Session → A) → P x → ((s : Session) → found ≡ Got s → P (f s)) → P (caseFound found x f)
-unfolding caseFound
-known-found P Nothing x f p q = p
-known-found P (Got s) x f p q = q s refl
-
-known-reserved : {A : Type 0} (P : A → Type 0) (r : Reserved) (x : A) (f : ℕ → Session → A) → P x → ((n : ℕ) (s : Session) → r ≡ First n s → P (f n s)) → P (caseReserved r x f)
-unfolding caseReserved
-known-reserved P TooFew x f p q = p
-known-reserved P (First n s) x f p q = q n s refl
 
 module _ (c : Control) (store : List ℕ) (now : ℕ) where
   sends-counted : (x y : Session) (first : ℕ) → currentOf (c .sessions) ≡ Got x → Reserves x 1 first y

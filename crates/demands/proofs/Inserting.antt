@@ -1,17 +1,15 @@
 -- What is known after the operations that insert a session: an incoming initiation, and a response, which also grants the session's first counter.
 -- Assumes nothing.
 use mathlib.Core.Path.{_≡_, refl, ap, sym, _∙_}
-use mathlib.Core.Bool.{Bool, true, false}
+use mathlib.Core.Bool.{true}
 use mathlib.Core.List.{List, [], _∷_, _++_}
 use Prim.Native.Nat.{ℕ, _+_, _^_, _<_}
 use native.Mathlib.Omega.{arith}
 use lib.Dec.{eqb}
 use lib.ListN.{length}
-use Rattle.base.specs.Choice.{choose}
 use Rattle.demands.proofs.Changes.{held-inserted}
-use Rattle.demands.proofs.Granting.{Grants, Encrypts, encrypts}
+use Rattle.demands.proofs.Granting.{Encrypts, encrypts}
 use Rattle.demands.proofs.Granting.Encrypts.{skips, sends}
-use Rattle.demands.proofs.Held.{held-carried}
 use Rattle.demands.proofs.Known.{Known, known-as, Idle, idle-refused, known-carried, known-confirmed}
 use Rattle.demands.proofs.Moves.{carried-next, carried-current}
 use Rattle.demands.specs.Sending.{Grant, granting}
@@ -23,8 +21,8 @@ use Rattle.sessions.specs.declared.sessions.Found.the-variants.{Got}
 use Rattle.tunnel.proofs.Responses.{keepalive-sent, stored, response-current, response-good}
 use Rattle.tunnel.proofs.SoundSteps.{SoundControl}
 use Rattle.tunnel.proofs.Steps.{of-choice}
-use Rattle.tunnel.specs.Control.{Turn, refuse, done, queueing, withHandshake, withSessions}
-use Rattle.tunnel.specs.Handshake.{caseCompleted, withStates, receiveHandshakeInitialization, receiveHandshakeResponse}
+use Rattle.tunnel.specs.Control.{Turn, refuse, done, queueing, withSessions}
+use Rattle.tunnel.specs.Handshake.{caseCompleted, receiveHandshakeInitialization, receiveHandshakeResponse}
 use Rattle.tunnel.specs.Messages.{responding, respond, handleHandshakeInitiation, confirming, complete, handleHandshakeResponse}
 use Rattle.tunnel.specs.Transport.{encryptKeepalive, confirmFirstSession}
 use Rattle.tunnel.specs.declared.answer.Answer.the-variants.{Response, Keepalive}
@@ -33,7 +31,7 @@ use Rattle.tunnel.specs.declared.control.Out.{Out}
 use Rattle.tunnel.specs.declared.handshake.Completed.{Completed}
 use Rattle.tunnel.specs.declared.handshake.Completed.the-variants.{Failed, Opened}
 use Rattle.tunnel.specs.declared.handshake.Handshake.{Handshake}
-use Rattle.tunnel.specs.declared.transport.Datagram.the-variants.{Skipped, Sent}
+use Rattle.tunnel.specs.declared.transport.Datagram.the-variants.{Sent}
 use Rattle.tunnel.specs.declared.transport.Encrypted.{Encrypted}
 
 -- what a handshake message does: nothing is inserted, a session is inserted, or one is inserted that grants its first counter

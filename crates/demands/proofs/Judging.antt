@@ -1,30 +1,27 @@
 -- What is known after a batch: one that is turned down changes nothing, any other commits what its verdicts say to the session's history.
 -- Assumes nothing.
-use mathlib.Core.Path.{_≡_, refl, ap, sym, _∙_}
+use mathlib.Core.Path.{_≡_, refl, ap, sym}
 use mathlib.Core.Bool.{Bool, true, false}
-use mathlib.Core.List.{List, [], _∷_}
+use mathlib.Core.List.{List}
 use Prim.Native.Nat.{ℕ}
 use native.Mathlib.Omega.{arith}
-use lib.Dec.{eqb}
 use lib.ListN.{length}
 use borrow.Author.Tests.{eq-eqb, ne-eqb, eqb-true}
 use Rattle.base.proofs.Choice.{yes-eq}
 use Rattle.base.specs.Choice.{choose}
-use Rattle.demands.proofs.Changes.{batch-judged, held-judged}
-use Rattle.demands.proofs.Held.{held-carried}
+use Rattle.demands.proofs.Changes.{held-judged}
 use Rattle.demands.proofs.Known.{Known, Idle, idle-refused, known-carried, known-confirmed}
 use Rattle.demands.proofs.Moves.{carried-current}
 use Rattle.demands.specs.Sending.{Grant}
 use Rattle.sessions.specs.Batch.{Outcome, batchOf, refused, answered, untouched, committedTo, fits, receivingSession, commit, receive}
-use Rattle.sessions.specs.History.{recordedAll, verdictsOn}
+use Rattle.sessions.specs.History.{recordedAll}
 use Rattle.sessions.specs.Sessions.{caseFound}
 use Rattle.sessions.specs.Store.{whole}
-use Rattle.sessions.specs.declared.batch.Received.{Received}
 use Rattle.sessions.specs.declared.session.Session.{Session}
 use Rattle.sessions.specs.declared.sessions.Found.{Found}
 use Rattle.sessions.specs.declared.sessions.Found.the-variants.{Nothing, Got}
 use Rattle.tunnel.proofs.Steps.{of-choice}
-use Rattle.tunnel.specs.Control.{expiredControl, refuse, done, withSessions, withTimers}
+use Rattle.tunnel.specs.Control.{refuse, done, withSessions}
 use Rattle.tunnel.specs.Transport.{Batched, selecting, accept, batched, committed, committing, commitDecapsulate}
 use Rattle.tunnel.specs.declared.answer.Answer.the-variants.{No, Done}
 use Rattle.tunnel.specs.declared.control.Control.{Control}

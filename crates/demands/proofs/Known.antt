@@ -1,48 +1,34 @@
 -- What is known of the control and the store after any calls, and the operations of the Rust's that insert, commit and grant nothing.
 -- Assumes nothing.
-use mathlib.Core.Path.{_≡_, refl, ap, sym, _∙_}
-use mathlib.Core.Bool.{Bool, true, false}
-use mathlib.Core.List.{List, [], _∷_, _++_}
-use Prim.Native.Nat.{ℕ, _+_, _≤_, _<_}
+use mathlib.Core.Path.{_≡_, refl}
+use mathlib.Core.Bool.{Bool, false}
+use mathlib.Core.List.{List, [], _++_}
+use Prim.Native.Nat.{ℕ, _+_}
 use native.Mathlib.Omega.{arith}
-use Rattle.base.specs.Choice.{choose}
-use Rattle.demands.proofs.Held.{append-nothing, Held, held-carried, Carried, carried-same}
-use Rattle.demands.proofs.Moves.{carried-next, carried-current}
+use Rattle.demands.proofs.Held.{append-nothing, Held, held-carried, Carried}
+use Rattle.demands.proofs.Moves.{carried-next}
 use Rattle.demands.proofs.Queued.{EventGranted, Queue, queue-push, queue-pop}
 use Rattle.demands.specs.Calls.{World}
 use Rattle.demands.specs.Made.{caseAnswer, inserts}
 use Rattle.demands.specs.Sending.{Grant, answeredGrant}
-use Rattle.sessions.specs.Sessions.{caseFound, caseMissing, nextIndex, setCurrent}
+use Rattle.sessions.specs.Sessions.{caseMissing}
 use Rattle.sessions.specs.declared.range.Range.{Range}
 use Rattle.sessions.specs.declared.session.Time.{Time}
 use Rattle.sessions.specs.declared.sessions.Missing.{Missing}
 use Rattle.sessions.specs.declared.sessions.Missing.the-variants.{Refused, Count}
-use Rattle.sessions.specs.declared.sessions.Sessions.{Sessions}
 use Rattle.tunnel.proofs.Steps.{of-choice, of-found}
 use Rattle.tunnel.specs.Control.{withHandshake, outcome, refuse, done, queueing, pollEvent, missingReport}
 use Rattle.tunnel.specs.Handshake.{caseCookie}
 use Rattle.tunnel.specs.Messages.{initiate, initiating, handleCookieReply, restartHandshake, startHandshake}
 use Rattle.tunnel.specs.Transport.{beginDecapsulate, confirmFirstSession}
 use Rattle.tunnel.specs.declared.answer.Answer.{Answer}
-use Rattle.tunnel.specs.declared.answer.Answer.the-variants.{
-  No,
-  Done,
-  NoAnswer,
-  Initiation,
-  Response,
-  Keepalive,
-  Granted,
-  Polled,
-  Deadline,
-  Report,
-}
+use Rattle.tunnel.specs.declared.answer.Answer.the-variants.{No, Done, NoAnswer, Initiation, Response, Keepalive, Granted, Polled, Deadline, Report}
 use Rattle.tunnel.specs.declared.control.Control.{Control}
 use Rattle.tunnel.specs.declared.control.Out.{Out}
 use Rattle.tunnel.specs.declared.event.Event.{Event}
-use Rattle.tunnel.specs.declared.event.Event.the-variants.{Established, SendKeepalive}
+use Rattle.tunnel.specs.declared.event.Event.the-variants.{Established}
 use Rattle.tunnel.specs.declared.handshake.Cookie.{Cookie}
 use Rattle.tunnel.specs.declared.handshake.Cookie.the-variants.{Unusable, Stored}
-use Rattle.tunnel.specs.declared.handshake.Handshake.{Handshake}
 
 -- after n insertions, with these histories, grants and grants of wakings
 pub record Known (n : ℕ) (h : ℕ → List ℕ) (g k : List Grant) (c : Control) (store : List ℕ) : Type 0 where

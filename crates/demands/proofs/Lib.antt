@@ -1,4 +1,6 @@
+pub mod Admits
 pub mod Changes
+pub mod Computed
 pub mod Example
 pub mod Granting
 pub mod Grown
@@ -12,6 +14,9 @@ pub mod Queued
 pub mod Receiving
 pub mod Runs
 pub mod Sending
+pub mod Setting
 pub mod Stepped
+pub mod Twins
 pub mod Verdicts
 pub mod Waked
+pub mod Wakings

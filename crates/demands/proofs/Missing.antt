@@ -1,10 +1,9 @@
 -- Demand 2, the missing report: the count of a filled slot is that of its session's history.
 -- Assumes nothing.
-use mathlib.Core.Path.{_≡_, refl, ap, sym, _∙_}
-use mathlib.Core.Bool.{Bool, true, false}
+use mathlib.Core.Path.{_≡_, refl, ap}
+use mathlib.Core.Bool.{true}
 use mathlib.Core.List.{List}
 use Prim.Native.Nat.{ℕ, _-_, _<_}
-use lib.Dec.{eqb}
 use lib.ListN.{length}
 use borrow.Author.Tests.{eq-eqb}
 use Rattle.base.specs.Choice.{choose}
@@ -17,10 +16,9 @@ use Rattle.demands.specs.Calls.Call.{missing}
 use Rattle.demands.specs.Missing.{MissingReport}
 use Rattle.demands.specs.Sending.{Grant}
 use Rattle.sessions.proofs.Judged.{missing-law}
-use Rattle.sessions.specs.Index.{slotIn}
 use Rattle.sessions.specs.Sessions.{caseFound, caseMissing, slotAt, inSlotOf, get}
 use Rattle.sessions.specs.Sessions as sessions
-use Rattle.sessions.specs.Store.{whole, slotOf, missingOf}
+use Rattle.sessions.specs.Store.{slotOf}
 use Rattle.sessions.specs.declared.session.Session.{Session}
 use Rattle.sessions.specs.declared.sessions.Found.the-variants.{Got}
 use Rattle.sessions.specs.declared.sessions.Missing.the-variants.{Count}
@@ -30,7 +28,6 @@ use Rattle.tunnel.specs.Control.{missingReport}
 use Rattle.tunnel.specs.Sound.{Sound}
 use Rattle.tunnel.specs.Tunnel.{timelessGate, settled, timeless, callMissing}
 use Rattle.tunnel.specs.declared.answer.Answer.the-variants.{Report}
-use Rattle.tunnel.specs.declared.control.Out.{Out}
 use Rattle.window.specs.History.{amongLast}
 
 module _ (w : World) (n : ℕ) (h : ℕ → List ℕ) (g k : List Grant) (y : Known n h g k (w .tunnel .control) (w .store)) (sound : Sound (w .tunnel))

@@ -2,8 +2,8 @@
 -- Assumes nothing.
 use mathlib.Core.Path.{_≡_, refl, ap, sym, _∙_}
 use mathlib.Core.Bool.{Bool, true, false}
-use mathlib.Core.List.{List, [], _∷_}
-use Prim.Native.Nat.{ℕ, zero, suc, _+_, _%_, _^_, _≤_, _<_}
+use mathlib.Core.List.{List}
+use Prim.Native.Nat.{ℕ, zero, suc, _≤_, _<_}
 use native.Mathlib.Decide.{ℕ-discrete}
 use native.Mathlib.Omega.{arith}
 use lib.Dec.{eqb}
@@ -17,33 +17,8 @@ use Rattle.sessions.specs.Batch.{receivingSession}
 use Rattle.sessions.specs.Index.{slotIn}
 use Rattle.sessions.specs.Laws.{Kept}
 use Rattle.sessions.specs.Session.{emptySession, newSession, expiredAt}
-use Rattle.sessions.specs.Sessions.{
-  caseFound,
-  caseSelected,
-  slotAt,
-  withSlots,
-  emptySlots,
-  Held,
-  inSlotOf,
-  get,
-  put,
-  currentOf,
-  nextIndex,
-  isIndex,
-  select,
-  setCurrent,
-  clear,
-  emptied,
-  expiredSlot,
-  Expiring,
-  discard,
-  expireSlot,
-  expireFirst,
-  expire,
-  inserting,
-  insert,
-}
-use Rattle.sessions.specs.Store.{slotOf, putSlot, zeros, whole}
+use Rattle.sessions.specs.Sessions.{caseFound, caseSelected, slotAt, emptySlots, Held, inSlotOf, get, put, currentOf, nextIndex, select, setCurrent, clear, emptied, Expiring, discard, expireSlot, expireFirst, expire, insert}
+use Rattle.sessions.specs.Store.{putSlot, zeros}
 use Rattle.sessions.specs.declared.session.Session.{Session}
 use Rattle.sessions.specs.declared.sessions.Expired.{Expired}
 use Rattle.sessions.specs.declared.sessions.Found.{Found}

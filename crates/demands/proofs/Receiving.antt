@@ -3,19 +3,18 @@
 use mathlib.Core.Path.{_≡_, refl, ap, sym, _∙_}
 use mathlib.Core.Bool.{Bool, true, false, true≢false}
 use mathlib.Core.List.{List}
-use Prim.Native.Nat.{ℕ, _+_, _-_, _≤_, _<_}
+use Prim.Native.Nat.{ℕ, _+_, _-_, _<_}
 use native.Mathlib.Omega.{arith}
-use lib.Dec.{eqb}
 use lib.ListN.{length, getD, take}
 use borrow.Author.Tests.{eq-eqb, lt-leb}
-use Rattle.base.proofs.Choice.{yes-eq, no-flag}
+use Rattle.base.proofs.Choice.{no-flag}
 use Rattle.base.specs.Choice.{choose}
 use Rattle.demands.proofs.Changes.{batch-judged}
 use Rattle.demands.proofs.Known.{Known}
 use Rattle.demands.proofs.Runs.{known-run}
 use Rattle.demands.proofs.Verdicts.{long-verdicts, each-verdict}
 use Rattle.demands.specs.Calls.{World, step, after, created}
-use Rattle.demands.specs.Receiving.{historyOf, Batch, receiving, Live, Judges, ReceivingLaw, Receiving}
+use Rattle.demands.specs.Receiving.{Batch, receiving, Live, Judges, Receiving}
 use Rattle.demands.specs.Sending.{Grant}
 use Rattle.sessions.proofs.Batches.{fits-ready}
 use Rattle.sessions.specs.Batch.{Outcome, fits, receivingSession, receive}
@@ -23,16 +22,14 @@ use Rattle.sessions.specs.History.{recordedAll, verdictsOn, Call, BatchLaw}
 use Rattle.sessions.specs.Index.{slotIn}
 use Rattle.sessions.specs.Session.{expiredAt}
 use Rattle.sessions.specs.Sessions.{caseFound, slotAt, inSlotOf, get}
-use Rattle.sessions.specs.declared.session.Session.{Session}
 use Rattle.sessions.specs.declared.sessions.Found.the-variants.{Got}
 use Rattle.sessions.specs.declared.sessions.Sessions.{Sessions}
 use Rattle.tunnel.proofs.Framed.{open-good}
 use Rattle.tunnel.specs.Arguments.{lacking, badBatch}
-use Rattle.tunnel.specs.Control.{done, expiredControl}
-use Rattle.tunnel.specs.Transport.{Batched, committed, committing, commitDecapsulate}
-use Rattle.tunnel.specs.Tunnel.{CalledBatch, gate, settled, timed, kept, timedBatch, callReceive}
+use Rattle.tunnel.specs.Control.{done}
+use Rattle.tunnel.specs.Transport.{committed, committing, commitDecapsulate}
+use Rattle.tunnel.specs.Tunnel.{settled, timed, kept, timedBatch, callReceive}
 use Rattle.tunnel.specs.declared.answer.Answer.the-variants.{Done}
-use Rattle.tunnel.specs.declared.control.Out.{Out}
 
 -- the session that a live batch finds
 module _ (s : Sessions) (index id now slot : ℕ) (placed : slotIn index ≡ slot) (filled : slotAt s slot .filled ≡ true)

@@ -3,11 +3,10 @@
 use mathlib.Core.Path.{_≡_, refl, ap, sym, _∙_}
 use mathlib.Core.Bool.{Bool, true, false}
 use mathlib.Core.List.{List, [], _∷_, _++_, append-assoc}
-use Prim.Native.Nat.{ℕ, _+_, _^_, _≤_, _<_}
+use Prim.Native.Nat.{ℕ, _+_, _^_, _<_}
 use native.Mathlib.Nat.{add-zero}
 use native.Mathlib.Omega.{arith}
-use lib.Dec.{eqb}
-use lib.ListN.{length, getD-replicate, length-replicate}
+use lib.ListN.{getD-replicate, length-replicate}
 use Rattle.base.specs.Choice.{choose}
 use Rattle.demands.proofs.Grown.{sound-step, sound-created}
 use Rattle.demands.proofs.Held.{append-nothing, Held}
@@ -15,15 +14,14 @@ use Rattle.demands.proofs.Known.{Known, known-as}
 use Rattle.demands.proofs.Moves.{empty-filled}
 use Rattle.demands.proofs.Queued.{queue-new}
 use Rattle.demands.proofs.Stepped.{next}
-use Rattle.demands.specs.Calls.{Call, World, Reply, step, after, Creation, creating, created, Good}
-use Rattle.demands.specs.Made.{made, inserts, insertions}
-use Rattle.demands.specs.Receiving.{committing, committed, historyOf}
+use Rattle.demands.specs.Calls.{Call, World, step, after, Creation, creating, created, Good}
+use Rattle.demands.specs.Made.{made, insertions}
+use Rattle.demands.specs.Receiving.{committed, historyOf}
 use Rattle.demands.specs.Sending.{Grant, wokenGrant, answeredGrant, wokenGrants, grants, upFrom, countersOf}
 use Rattle.sessions.proofs.Apart.{length-zeros}
 use Rattle.sessions.specs.Session.{emptySession}
 use Rattle.sessions.specs.Sessions.{emptySlots, newSessions}
 use Rattle.sessions.specs.Store.{zeros}
-use Rattle.tunnel.specs.Arguments.{creationNumber}
 use Rattle.tunnel.specs.Control.{newControl}
 use Rattle.tunnel.specs.Sound.{Sound}
 use Rattle.tunnel.specs.Tunnel.{Called, answered, callNew, refused}

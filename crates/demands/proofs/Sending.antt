@@ -1,24 +1,22 @@
 -- Demand 2, sending: the counters that a session grants are 0, 1, 2 on.
 -- Assumes nothing.
 use mathlib.Core.Path.{_≡_, refl, ap, sym, _∙_}
-use mathlib.Core.Bool.{Bool, true, false}
-use mathlib.Core.List.{List, [], _∷_}
+use mathlib.Core.List.{List, []}
 use Prim.Native.Nat.{ℕ, _≤_}
 use native.Mathlib.Omega.{arith}
 use lib.ListN.{length}
-use Rattle.base.specs.Choice.{choose}
-use Rattle.demands.proofs.Granting.{Grants, Sends, sends-some}
+use Rattle.demands.proofs.Granting.{Sends, sends-some}
 use Rattle.demands.proofs.Granting.Sends.{none, some}
 use Rattle.demands.proofs.Held.{Runs, long-from}
 use Rattle.demands.proofs.Known.{Known}
-use Rattle.demands.proofs.Queued.{EventGranted, queue-polled, put-none}
+use Rattle.demands.proofs.Queued.{queue-polled, put-none}
 use Rattle.demands.proofs.Runs.{known-run}
 use Rattle.demands.proofs.Stepped.{put, pushed, woke-step}
-use Rattle.demands.proofs.Waked.{Ungranted, Waked}
+use Rattle.demands.proofs.Waked.{Waked}
 use Rattle.demands.proofs.Waked.Waked.{silent, queues, grants}
 use Rattle.demands.specs.Calls.{Reply, World, step, after, created}
 use Rattle.demands.specs.Calls.Call.{send, timeout, event}
-use Rattle.demands.specs.Sending.{Grant, Among, currentIn, putBy, upFrom, countersOf, SendingLaw, Sending}
+use Rattle.demands.specs.Sending.{Grant, Among, currentIn, putBy, upFrom, Sending}
 use Rattle.demands.specs.Sending.Among.{here, there}
 use Rattle.sessions.specs.declared.range.Range.{Range}
 use Rattle.sessions.specs.declared.session.Session.{Session}
@@ -26,8 +24,7 @@ use Rattle.sessions.specs.declared.sessions.Found.the-variants.{Got}
 use Rattle.tunnel.proofs.Steps.{of-choice}
 use Rattle.tunnel.specs.Control.{pollEvent}
 use Rattle.tunnel.specs.Tunnel.{refused, settled, timed, timeless, callSend, callEvent}
-use Rattle.tunnel.specs.declared.answer.Answer.the-variants.{No, Granted, Polled}
-use Rattle.tunnel.specs.declared.control.Control.{Control}
+use Rattle.tunnel.specs.declared.answer.Answer.the-variants.{Granted, Polled}
 use Rattle.tunnel.specs.declared.control.Out.{Out}
 use Rattle.tunnel.specs.declared.event.Event.{Event}
 use Rattle.tunnel.specs.declared.event.Event.the-variants.{Empty, SendKeepalive}

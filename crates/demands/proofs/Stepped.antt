@@ -1,42 +1,24 @@
 -- Each call keeps what is known, with what it inserts, commits and grants added.
 -- Assumes nothing.
-use mathlib.Core.Path.{_≡_, refl, ap, sym, _∙_}
+use mathlib.Core.Path.{_≡_, refl, sym, _∙_}
 use mathlib.Core.Bool.{Bool, true, false}
 use mathlib.Core.List.{List, [], _∷_, _++_}
-use Prim.Native.Nat.{ℕ, _+_, _^_, _≤_, _<_}
-use native.Mathlib.Decide.{ℕ-discrete}
+use Prim.Native.Nat.{ℕ, _+_, _^_, _<_}
 use native.Mathlib.Nat.{add-zero}
-use native.Mathlib.Omega.{arith}
 use lib.Dec.{eqb}
-use lib.ListN.{length}
-use borrow.Author.Tests.{eq-eqb, ne-eqb, eqb-true, eqb-false}
+use borrow.Author.Tests.{eqb-true, eqb-false}
 use Rattle.base.proofs.Choice.{yes-eq, no-eq}
 use Rattle.base.specs.Choice.{choose}
-use Rattle.demands.proofs.Granting.{Grants, Sends, sends-some}
+use Rattle.demands.proofs.Granting.{Sends, sends-some}
 use Rattle.demands.proofs.Granting.Sends.{none, some}
-use Rattle.demands.proofs.Held.{append-nothing, SlotHeld, Held}
+use Rattle.demands.proofs.Held.{append-nothing, SlotHeld}
 use Rattle.demands.proofs.Inserting.{Inserts, inserts-initiation, inserts-response}
 use Rattle.demands.proofs.Inserting.Inserts.{nothing, responds, completes}
 use Rattle.demands.proofs.Judging.{Judged, judged-batch}
 use Rattle.demands.proofs.Judging.Judged.{turned, taken}
-use Rattle.demands.proofs.Known.{
-  Known,
-  Plain,
-  plain-of,
-  known-as,
-  known-same,
-  Idle,
-  idle-refused,
-  idle-start,
-  idle-restart,
-  idle-look,
-  idle-cookie,
-  idle-event,
-  idle-deadline,
-  idle-missing,
-}
+use Rattle.demands.proofs.Known.{Known, Plain, plain-of, known-as, known-same, Idle, idle-refused, idle-start, idle-restart, idle-look, idle-cookie, idle-event, idle-deadline, idle-missing}
 use Rattle.demands.proofs.Queued.{EventGranted, queue-later, queue-push, put-none, put-pushed, among-last}
-use Rattle.demands.proofs.Waked.{Ungranted, Waked, From, woken}
+use Rattle.demands.proofs.Waked.{Waked, From, woken}
 use Rattle.demands.proofs.Waked.Waked.{silent, queues, grants}
 use Rattle.demands.specs.Calls.{Call, World, Reply, stored, judged, step}
 use Rattle.demands.specs.Calls.Call.{start, restart, send, receive, look, initiation, response, cookie, timeout, event, deadline, missing}
@@ -46,54 +28,27 @@ use Rattle.demands.specs.Sending.{Grant, granting, currentIn, putLast, k
 use Rattle.sessions.specs.History.{recordedAll}
 use Rattle.sessions.specs.Sessions.{caseFound, currentOf}
 use Rattle.sessions.specs.declared.session.Session.{Session}
-use Rattle.sessions.specs.declared.sessions.Found.{Found}
 use Rattle.sessions.specs.declared.sessions.Found.the-variants.{Got}
 use Rattle.tunnel.proofs.Framed.{open-onward}
 use Rattle.tunnel.proofs.SoundCalls.{its-control}
 use Rattle.tunnel.proofs.SoundSteps.{sound-later}
 use Rattle.tunnel.proofs.Steps.{of-choice}
 use Rattle.tunnel.specs.Answer.{numberOf}
-use Rattle.tunnel.specs.Control.{Turn, refuse, done, expiredControl}
+use Rattle.tunnel.specs.Control.{Turn, refuse, done}
 use Rattle.tunnel.specs.Event.{caseEvent}
 use Rattle.tunnel.specs.Arguments.{initiationOutcome, openingOutcome}
 use Rattle.tunnel.specs.RingBuffer.{pushBack}
 use Rattle.tunnel.specs.Sound.{Sound}
 use Rattle.tunnel.specs.Transport.{Batched}
-use Rattle.tunnel.specs.Tunnel.{
-  Called,
-  CalledBatch,
-  gate,
-  timelessGate,
-  refused,
-  settled,
-  timed,
-  timeless,
-  kept,
-  timedTurn,
-  timedBatch,
-  callStart,
-  callRestart,
-  callSend,
-  callReceive,
-  callLook,
-  callInitiation,
-  callResponse,
-  callCookie,
-  callTimeout,
-  callEvent,
-  callDeadline,
-  callMissing,
-}
-use Rattle.tunnel.specs.Waking.{wake, handleTimeout}
+use Rattle.tunnel.specs.Tunnel.{Called, CalledBatch, gate, refused, settled, timed, timeless, kept, timedTurn, timedBatch, callStart, callRestart, callSend, callReceive, callLook, callInitiation, callResponse, callCookie, callTimeout, callEvent, callDeadline, callMissing}
+use Rattle.tunnel.specs.Waking.{handleTimeout}
 use Rattle.tunnel.specs.declared.answer.Answer.{Answer}
-use Rattle.tunnel.specs.declared.answer.Answer.the-variants.{No, Done, NoAnswer, Granted}
+use Rattle.tunnel.specs.declared.answer.Answer.the-variants.{No, Done}
 use Rattle.tunnel.specs.declared.control.Control.{Control}
 use Rattle.tunnel.specs.declared.control.Out.{Out}
 use Rattle.tunnel.specs.declared.event.Event.{Event}
 use Rattle.tunnel.specs.declared.event.Event.the-variants.{Empty, SendKeepalive}
-use Rattle.tunnel.specs.declared.ring_buffer.RingBuffer.{RingBuffer}
 use Rattle.tunnel.specs.declared.tunnel.Answered.{Answered}
-use Rattle.tunnel.specs.declared.tunnel.Tunnel.{Tunnel}
 
 -- what is known after a call
 abbrev pub Next : (n : ℕ) (h : ℕ → List ℕ) (g k : List Grant) → World → Call → Reply → Type 0

@@ -1,13 +1,12 @@
 -- What is known after a waking: it puts at most one event into the ring, and a keepalive that it puts there is a grant of the current session.
 -- Assumes nothing.
-use mathlib.Core.Path.{_≡_, refl, ap, sym, _∙_}
+use mathlib.Core.Path.{_≡_, refl, ap, _∙_}
 use mathlib.Core.Bool.{Bool, true, false}
 use mathlib.Core.List.{List, [], _∷_, _++_}
 use Prim.Native.Nat.{ℕ}
 use native.Mathlib.Omega.{arith}
 use lib.ListN.{length}
-use Rattle.base.specs.Choice.{choose}
-use Rattle.demands.proofs.Granting.{Grants, Encrypts, encrypts}
+use Rattle.demands.proofs.Granting.{Encrypts, encrypts}
 use Rattle.demands.proofs.Granting.Encrypts.{skips, sends}
 use Rattle.demands.proofs.Held.{Held, held-carried}
 use Rattle.demands.proofs.Known.{Known}
@@ -15,7 +14,7 @@ use Rattle.demands.proofs.Moves.{carried-next, Thinned, thinned-expire,
 use Rattle.demands.proofs.Queued.{EventGranted}
 use Rattle.demands.specs.Sending.{Grant, granting, keepaliveBy}
 use Rattle.sessions.specs.Session.{caseTime}
-use Rattle.sessions.specs.Sessions.{caseFound, currentOf, nextIndex, expire, clear}
+use Rattle.sessions.specs.Sessions.{currentOf, expire, clear}
 use Rattle.sessions.specs.declared.session.Session.{Session}
 use Rattle.sessions.specs.declared.session.Time.{Time}
 use Rattle.sessions.specs.declared.session.Time.the-variants.{Never, At}
@@ -28,24 +27,7 @@ use Rattle.tunnel.specs.Event.{caseEvent}
 use Rattle.tunnel.specs.Messages.{initiate, initiating}
 use Rattle.tunnel.specs.RingBuffer.{pushBack}
 use Rattle.tunnel.specs.Transport.{caseDatagram, encryptKeepalive}
-use Rattle.tunnel.specs.Waking.{
-  inner,
-  clearAll,
-  expireControl,
-  scheduling,
-  queueKeepalive,
-  persistentKeepalive,
-  keepalives,
-  wakeIdle,
-  wakeInProgress,
-  expireCookie,
-  wakeLater,
-  wakeRest,
-  wakeCurrent,
-  wakeSessions,
-  sendScheduled,
-  wake,
-}
+use Rattle.tunnel.specs.Waking.{inner, clearAll, expireControl, scheduling, queueKeepalive, persistentKeepalive, keepalives, wakeIdle, wakeInProgress, expireCookie, wakeLater, wakeRest, wakeCurrent, wakeSessions, sendScheduled, wake}
 use Rattle.tunnel.specs.declared.control.Control.{Control}
 use Rattle.tunnel.specs.declared.event.Event.{Event}
 use Rattle.tunnel.specs.declared.event.Event.the-variants.{SendHandshakeInitiation, SendKeepalive, ConnectionExpired}

@@ -2,7 +2,7 @@
 -- a jump that clears the window, a keepalive queued by a waking and polled; then a batch for the live session.
 use mathlib.Core.Path.{_≡_}
 use mathlib.Core.List.{List, [], _∷_}
-use Prim.Native.Nat.{ℕ, _^_, _<_}
+use Prim.Native.Nat.{_^_, _<_}
 use Rattle.demands.specs.Calls.{Call, World, step, after, Creation, created, Good}
 use Rattle.demands.specs.Calls.Call.{start, send, receive, response, timeout, event, missing}
 use Rattle.demands.specs.Made.{made, insertions}

@@ -6,3 +6,5 @@ pub mod Marked
 pub mod Missing
 pub mod Receiving
 pub mod Sending
+pub mod Wakings
+pub mod WakingsExample

@@ -8,6 +8,8 @@ ghost use Rattle.demands.specs.Marked.{holdAll, marked};
 ghost use Rattle.demands.specs.Missing.{MissingReport};
 ghost use Rattle.demands.specs.Receiving.{Receiving};
 ghost use Rattle.demands.specs.Sending.{Sending};
+ghost use Rattle.demands.specs.Wakings.{ExtraWakingsLaw};
+ghost use Rattle.demands.specs.WakingsExample.{ExtraWakingsExample, ConditionsNeeded};
 
 // The marked cases of document 01, each computed from the definitions.
 pub fn marked_cases()
@@ -34,7 +36,22 @@ pub fn missing_law()
     ensures { λ r. ⌜ MissingReport ⌝ }
 {}
 
-// There are calls of which demand 2's statements speak.
+// There are calls of which demand 2's statements speak: a live session, a commit, a replay, a jump that clears the window, a keepalive.
 pub fn example_law()
     ensures { λ r. ⌜ ExampleLaw ⌝ }
+{}
+
+// Demand 3: extra wakings under its three conditions change nothing of what the shared calls give.
+pub fn extra_wakings_law()
+    ensures { λ r. ⌜ ExtraWakingsLaw ⌝ }
+{}
+
+// There is a list that meets the conditions, with wakings that take effect and deadlines that differ and have both come.
+pub fn extra_wakings_example()
+    ensures { λ r. ⌜ ExtraWakingsExample ⌝ }
+{}
+
+// For each of the conditions there is a list that meets the other two, and a shared call that gives the tunnels different answers.
+pub fn conditions_needed()
+    ensures { λ r. ⌜ ConditionsNeeded ⌝ }
 {}

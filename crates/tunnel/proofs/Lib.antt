@@ -6,7 +6,9 @@ pub mod Kept
 pub mod Later
 pub mod Loops
 pub mod MessagesWays
+pub mod Opened
 pub mod Queue
+pub mod Quiet
 pub mod Responses
 pub mod SoundCalls
 pub mod SoundOperations

@@ -10,8 +10,34 @@ use lib.ListN.{length}
 use lib.Seq.{getD-set-same}
 use borrow.Author.Tests.{le-leb, lt-leb, le-ltb, eqb-true, eq-eqb}
 use Rattle.base.specs.Choice.{choose}
-use Rattle.sessions.specs.Session.{caseReserved, newSession, withId, withCounter, reserveCounters, expiredAt, shouldUseAt, sendingCounterExhausted, emptySession, rejectAfterTime, keepaliveTimeout}
-use Rattle.sessions.specs.Sessions.{caseFound, caseSelected, inSlotOf, get, put, currentOf, inserting, insert, isIndex, select, setCurrent, usable, sendingSession}
+use Rattle.sessions.specs.Session.{
+  caseReserved,
+  newSession,
+  withId,
+  withCounter,
+  reserveCounters,
+  expiredAt,
+  shouldUseAt,
+  sendingCounterExhausted,
+  emptySession,
+  rejectAfterTime,
+  keepaliveTimeout,
+}
+use Rattle.sessions.specs.Sessions.{
+  caseFound,
+  caseSelected,
+  inSlotOf,
+  get,
+  put,
+  currentOf,
+  inserting,
+  insert,
+  isIndex,
+  select,
+  setCurrent,
+  usable,
+  sendingSession,
+}
 use Rattle.sessions.specs.declared.session.Reserved.{Reserved}
 use Rattle.sessions.specs.declared.session.Reserved.the-variants.{First}
 use Rattle.sessions.specs.declared.session.Role.the-variants.{Initiator}
@@ -52,7 +78,8 @@ already-current : (s : Sessions) (index : ℕ) → isIndex (s .current) index �
 unfolding currentOf
 already-current s index e = current-index (s .current) index s e
 
-module _ (s : Sessions) (index : ℕ) (x : Session) (found : get s index ≡ Got x) (newest : (y : Session) → currentOf s ≡ Got y → y .«established_at» ≤ x .«established_at») where
+module _ (s : Sessions) (index : ℕ) (x : Session) (found : get s index ≡ Got x)
+    (newest : (y : Session) → currentOf s ≡ Got y → y .«established_at» ≤ x .«established_at») where
   not-newer : (y : Session) → currentOf s ≡ Got y → choose (ltb (x .«established_at») (y .«established_at»)) s (select s index) ≡ select s index
   unfolding choose
   not-newer y p = rw (le-ltb (x .«established_at») (y .«established_at») (newest y p))
@@ -71,7 +98,11 @@ inserted-found : (s : Sessions) (store : List ℕ) (local peer now : ℕ) → le
     → get (insert s store (newSession local peer Initiator now) .sessions) local ≡ Got (withId (newSession local peer Initiator now) (s .inserted))
 unfolding get inSlotOf insert inserting put newSession choose caseFound
 inserted-found s store local peer now n l =
-    rw (eq-eqb (length store) 1024 l, getD-set-same (s .slots) (local % 8) (withId (newSession local peer Initiator now) (s .inserted)) emptySession (omega arith), eq-eqb local local refl)
+    rw (
+      eq-eqb (length store) 1024 l,
+      getD-set-same (s .slots) (local % 8) (withId (newSession local peer Initiator now) (s .inserted)) emptySession (omega arith),
+      eq-eqb local local refl,
+    )
 
 -- a session established now with no counter sent is usable
 fresh-usable : (x : Session) (now : ℕ) → x .«established_at» ≡ now → x .«sending_key_counter» ≡ 0

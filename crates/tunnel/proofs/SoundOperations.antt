@@ -6,46 +6,101 @@ use mathlib.Core.List.{List}
 use Prim.Native.Nat.{ℕ, _≤_}
 use native.Mathlib.Omega.{arith}
 use lib.ListN.{length}
-use Rattle.base.specs.Choice.{choose}
-use Rattle.sessions.specs.Batch.{started, batchOf, withProgress, receivingSession, Outcome, refused, answered, commit, receive}
-use Rattle.sessions.specs.Index.{slotIn}
+use Rattle.sessions.specs.Batch.{started}
 use Rattle.sessions.specs.Session.{newSession, reserveCounters, preparePacketData}
-use Rattle.sessions.specs.Sessions.{caseMissing, get, sendingSession}
-use Rattle.sessions.specs.declared.batch.Progress.{Progress}
+use Rattle.sessions.specs.Sessions.{caseMissing, sendingSession}
 use Rattle.sessions.specs.declared.batch.Received.{Received}
 use Rattle.sessions.specs.declared.session.Role.the-variants.{Initiator, Responder}
 use Rattle.sessions.specs.declared.session.Session.{Session}
 use Rattle.sessions.specs.declared.sessions.Missing.{Missing}
 use Rattle.sessions.specs.declared.sessions.Missing.the-variants.{Refused, Count}
-use Rattle.sessions.specs.declared.sessions.Sessions.{Sessions}
-use Rattle.tunnel.specs.Check.{limit}
-use Rattle.tunnel.specs.Control.{Turn, withEvents, withEstablished, withHandshake, withSessions, outcome, refuse, done, pollEvent, missingReport}
-use Rattle.tunnel.specs.Facts.{EventWithin, SlotWithin}
-use Rattle.tunnel.specs.Handshake.{caseCompleted, caseCookie, withStates, withCookies, tracking, appendMac1AndMac2, receiveHandshakeInitialization, receiveHandshakeResponse, receiveCookieReply}
-use Rattle.tunnel.specs.Messages.{responding, respond, handleHandshakeInitiation, confirming, handleHandshakeResponse, handleCookieReply, restartHandshake, startHandshake}
+use Rattle.tunnel.specs.Control.{
+  Turn,
+  withEvents,
+  withEstablished,
+  withHandshake,
+  withSessions,
+  outcome,
+  refuse,
+  done,
+  pollEvent,
+  missingReport,
+}
+use Rattle.tunnel.specs.Facts.{EventWithin}
+use Rattle.tunnel.specs.Handshake.{withStates, appendMac1AndMac2, receiveCookieReply}
+use Rattle.tunnel.specs.Messages.{
+  responding,
+  respond,
+  handleHandshakeInitiation,
+  confirming,
+  handleHandshakeResponse,
+  handleCookieReply,
+  restartHandshake,
+  startHandshake,
+}
 use Rattle.tunnel.specs.RingBuffer.{popFront}
 use Rattle.tunnel.specs.Timers.{maxJitter}
-use Rattle.tunnel.specs.Transport.{Batched, beginEncapsulate, finishEncapsulate, grant, send, confirmFirstSession, selecting, accept, batched, committed, commitDecapsulate, beginDecapsulate}
+use Rattle.tunnel.specs.Transport.{
+  Batched,
+  beginEncapsulate,
+  finishEncapsulate,
+  grant,
+  send,
+  confirmFirstSession,
+  selecting,
+  accept,
+  batched,
+  committed,
+  commitDecapsulate,
+  beginDecapsulate,
+}
 use Rattle.tunnel.specs.Waking.{handleTimeout}
 use Rattle.tunnel.specs.declared.answer.Answer.{Answer}
 use Rattle.tunnel.specs.declared.control.Control.{Control}
 use Rattle.tunnel.specs.declared.control.Out.{Out}
 use Rattle.tunnel.specs.declared.event.Event.the-variants.{Established}
-use Rattle.tunnel.specs.declared.handshake.Completed.{Completed}
-use Rattle.tunnel.specs.declared.handshake.Completed.the-variants.{Failed, Opened}
-use Rattle.tunnel.specs.declared.handshake.Cookie.{Cookie}
-use Rattle.tunnel.specs.declared.handshake.Cookie.the-variants.{Unusable, Stored}
+use Rattle.tunnel.specs.declared.handshake.Cookie.the-variants.{Stored}
 use Rattle.tunnel.specs.declared.handshake.Handshake.{Handshake}
 use Rattle.tunnel.specs.declared.handshake.HandshakeState.the-variants.{None}
-use Rattle.sessions.specs.declared.session.Time.the-variants.{At}
-use Rattle.sessions.proofs.Received.{receiving-got, batch-within}
-use Rattle.tunnel.proofs.Kept.{get-or-within, on-sent, on-received, on-data-sent, on-data-received, on-response, on-done, on-append, on-both-none, on-cookie, on-pop}
-use Rattle.tunnel.proofs.Later.{get-within}
+use Rattle.tunnel.proofs.Kept.{
+  get-or-within,
+  on-sent,
+  on-received,
+  on-data-sent,
+  on-data-received,
+  on-response,
+  on-done,
+  on-append,
+  on-both-none,
+  on-cookie,
+  on-pop,
+}
 use Rattle.tunnel.proofs.Queue.{queue-of-newest}
 use Rattle.tunnel.proofs.Steps.{of-choice, of-found}
 use Rattle.tunnel.proofs.Responses.{response-good}
-use Rattle.tunnel.proofs.SoundSteps.{known-found, known-reserved, SoundSessions, SoundControl, OwnSlot, counted-within, new-within, sending-within, put-sound, insert-sound, current-sound, index-sound, sound-later, its-sessions, sound-timers, sound-handshake, sound-sessions, sound-queued}
+use Rattle.tunnel.proofs.SoundSteps.{
+  known-found,
+  known-reserved,
+  SoundControl,
+  OwnSlot,
+  counted-within,
+  new-within,
+  sending-within,
+  put-sound,
+  insert-sound,
+  current-sound,
+  index-sound,
+  sound-later,
+  its-sessions,
+  sound-timers,
+  sound-handshake,
+  sound-sessions,
+  sound-queued,
+  SoundReceived,
+  receive-sound,
+}
 use Rattle.tunnel.proofs.SoundWaking.{sound-encrypted, sound-initiated, sound-wake}
+use Rattle.tunnel.proofs.Opened.{known-completed, known-cookie, initiation-opened, response-opened, cookie-stored}
 
 -- what an operation at a time hands back: its control is sound below that time where it raises the greatest time, else below the old one
 pub record SoundOut (out : Out) (old now : ℕ) : Type 0 where
@@ -87,59 +142,11 @@ module _ (old now : ℕ) where
   unfolding done
   done-sound c answer w = raising c answer false w
 
--- what holds of every case holds of the choice by cases
-module _ {A : Type 0} (P : A → Type 0) where
-  pub known-completed : (x : Completed) (f : ℕ → A) (g : Handshake → Session → A) → ((n : ℕ) → P (f n))
-      → ((h : Handshake) (s : Session) → x ≡ Opened h s → P (g h s)) → P (caseCompleted x f g)
-  unfolding caseCompleted
-  known-completed (Failed n) f g p q = p n
-  known-completed (Opened h s) f g p q = q h s refl
-
-  known-cookie : (x : Cookie) (f : ℕ → A) (g : Handshake → A) → ((n : ℕ) → P (f n)) → ((h : Handshake) → x ≡ Stored h → P (g h)) → P (caseCookie x f g)
-  unfolding caseCookie
-  known-cookie (Unusable n) f g p q = p n
-  known-cookie (Stored h) f g p q = q h refl
-
-  of-missing : (x : Missing) (f g : ℕ → A) → ((n : ℕ) → P (f n)) → ((n : ℕ) → P (g n)) → P (caseMissing x f g)
-  unfolding caseMissing
-  of-missing (Refused n) f g p q = p n
-  of-missing (Count n) f g p q = q n
-
--- the handshake and the session of a message that opened
-opened-by : (f : Bool) (h x : Handshake) (s y : Session) (n : ℕ) → choose f (Opened h s) (Failed n) ≡ Opened x y → (h ≡ x) × (s ≡ y)
-unfolding choose
-opened-by true h x s y n p = ((cc), (cc))
-opened-by false h x s y n p = let z : _≡_ {A = ℕ} 0 1 = cc in absurd (omega arith)
-
-opened-if : (e f : Bool) (h x : Handshake) (s y : Session) (m n : ℕ) → choose e (choose f (Opened h s) (Failed m)) (Failed n) ≡ Opened x y
-    → (h ≡ x) × (s ≡ y)
-unfolding choose
-opened-if true f h x s y m n p = opened-by f h x s y m p
-opened-if false f h x s y m n p = let z : _≡_ {A = ℕ} 0 1 = cc in absurd (omega arith)
-
-initiation-opened : (h x : Handshake) (local peer outcome now : ℕ) (y : Session) → receiveHandshakeInitialization h local peer outcome now ≡ Opened x y
-    → (appendMac1AndMac2 h local ≡ x) × (newSession local peer Responder now ≡ y)
-unfolding receiveHandshakeInitialization
-initiation-opened h x local peer outcome now y p = opened-by _ _ x _ y _ p
-
-pub response-opened : (h x : Handshake) (receiver peer outcome now : ℕ) (y : Session) → receiveHandshakeResponse h receiver peer outcome now ≡ Opened x y
-    → (withStates h None None ≡ x) × (newSession receiver peer Initiator now ≡ y)
-unfolding receiveHandshakeResponse
-response-opened h x receiver peer outcome now y p = opened-if _ _ _ x _ y _ _ p
-
--- the handshake with a cookie that was stored
-stored-by : (a b f : Bool) (h x : Handshake) (m n k : ℕ)
-    → choose a (choose b (choose f (Stored h) (Unusable m)) (Unusable n)) (Unusable k) ≡ Stored x → h ≡ x
-unfolding choose
-stored-by true true true h x m n k p = cc
-stored-by true true false h x m n k p = let z : _≡_ {A = ℕ} 0 1 = cc in absurd (omega arith)
-stored-by true false f h x m n k p = let z : _≡_ {A = ℕ} 0 1 = cc in absurd (omega arith)
-stored-by false b f h x m n k p = let z : _≡_ {A = ℕ} 0 1 = cc in absurd (omega arith)
-
-cookie-stored : (h x : Handshake) (receiver outcome now : ℕ) → receiveCookieReply h receiver outcome now ≡ Stored x
-    → withCookies h (tracking false (h .cookies .index) (At now)) ≡ x
-unfolding receiveCookieReply
-cookie-stored h x receiver outcome now p = stored-by _ _ _ _ x _ _ _ p
+-- what holds of every missing report, turned down or not, holds of both
+pub of-missing : {A : Type 0} (P : A → Type 0) (x : Missing) (f g : ℕ → A) → ((n : ℕ) → P (f n)) → ((n : ℕ) → P (g n)) → P (caseMissing x f g)
+unfolding caseMissing
+of-missing P (Refused n) f g p q = p n
+of-missing P (Count n) f g p q = q n
 
 -- an event of two times
 established-within : (a b most : ℕ) → a ≤ most → b ≤ most → EventWithin (Established a b) most
@@ -165,50 +172,6 @@ sound-confirmed c most start now w s h =
           sixteen = v .sixteen;
         }
 
--- the window's next after a batch
-batch-next : (store : List ℕ) (x : Session) (counters kinds : List ℕ) → x .next ≤ limit → batchOf store x counters kinds .progress .next ≤ limit
-unfolding started
-batch-next store x counters kinds h = batch-within _ (started x) counters kinds h
-
--- what the sessions make of a batch
-pub record SoundReceived (r : Received) (most : ℕ) : Type 0 where
-  pub sessions : SoundSessions (r .sessions) most
-  pub established : r .«established_at» ≤ most
-
-module _ (most : ℕ) where
-  progress-within : (x : Session) (k : ℕ) (p : Progress) → SlotWithin x k most → p .next ≤ limit → OwnSlot (withProgress x p) most
-  unfolding withProgress
-  progress-within x k p w h =
-      of-choice (λ (y : Session). OwnSlot y most) _ _ _
-      (record { established = w .established; counter = w .counter; next = h; index = refl })
-      (record { established = w .established; counter = w .counter; next = h; index = refl })
-
-  refused-sound : (s : Sessions) (number : ℕ) → SoundSessions s most → SoundReceived (refused s number) most
-  unfolding refused
-  refused-sound s number w = record { sessions = w; established = omega arith }
-
-  answered-sound : (s : Sessions) (x : Session) (k : ℕ) (p : Progress) → SoundSessions s most → SlotWithin x k most → p .next ≤ limit
-      → SoundReceived (answered s x p) most
-  unfolding answered
-  answered-sound s x k p w v h = record { sessions = put-sound most s _ w (progress-within x k p v h); established = v .established }
-
-  commit-sound : (s : Sessions) (store : List ℕ) (index id now : ℕ) (counters kinds verdicts : List ℕ) → SoundSessions s most
-      → SoundReceived (commit s store index id now counters kinds verdicts .received) most
-  unfolding commit
-  commit-sound s store index id now counters kinds verdicts w =
-      known-found (λ (y : Outcome). SoundReceived (y .received) most) (receivingSession s index id now) _ _ (refused-sound s 12 w)
-      (λ x p.
-      let v : SlotWithin x (slotIn index) most = get-within s most (w .within) (get s index) x (receiving-got s index id now x p) index refl in
-      answered-sound s x (slotIn index) _ w v (batch-next store x counters kinds (v .next)))
-
-  pub receive-sound : (s : Sessions) (store : List ℕ) (index id now : ℕ) (counters kinds verdicts : List ℕ) → SoundSessions s most
-      → SoundReceived (receive s store index id now counters kinds verdicts .received) most
-  unfolding receive
-  receive-sound s store index id now counters kinds verdicts w =
-      of-choice (λ (y : Outcome). SoundReceived (y .received) most) _ _ _
-      (of-choice (λ (y : Outcome). SoundReceived (y .received) most) _ _ _ (commit-sound s store index id now counters kinds verdicts w) (refused-sound s 2 w))
-      (refused-sound s 2 w)
-
 -- the steps of messages and of data
 module _ (most now : ℕ) (h : now ≤ most) where
   sound-selecting : (c : Control) (index acceptedAt : ℕ) → acceptedAt ≤ most → SoundControl c most → SoundControl (selecting c index acceptedAt now) most
@@ -219,7 +182,8 @@ module _ (most now : ℕ) (h : now ≤ most) where
       (on-received (c .timers) most now (w .within .timers) h))
       a h
 
-  sound-accept : (c : Control) (index acceptedAt : ℕ) (hasData : Bool) → acceptedAt ≤ most → SoundControl c most → SoundControl (accept c index acceptedAt hasData now) most
+  sound-accept : (c : Control) (index acceptedAt : ℕ) (hasData : Bool) → acceptedAt ≤ most → SoundControl c most
+      → SoundControl (accept c index acceptedAt hasData now) most
   unfolding accept
   sound-accept c index acceptedAt hasData a w =
       let v : SoundControl (selecting c index acceptedAt now) most = sound-selecting c index acceptedAt a w in
@@ -334,7 +298,8 @@ module _ (old now : ℕ) (l : old ≤ now) (c : Control) (w : SoundControl c old
       of-choice (λ (y : Turn). SoundOut (y .out) old now) _ _ _ (refuse-sound old now c 11 w)
       (known-completed (λ (y : Turn). SoundOut (y .out) old now) _ _ _ (λ n. refuse-sound old now c n w)
       (λ h s p.
-      let e : (withStates (c .handshake) None None ≡ h) × (newSession receiver peer Initiator now ≡ s) = response-opened (c .handshake) h receiver peer outcome now s p in
+      let e : (withStates (c .handshake) None None ≡ h) × (newSession receiver peer Initiator now ≡ s)
+      = response-opened (c .handshake) h receiver peer outcome now s p in
       rw (← e .0, ← e .1, response-good c (withStates (c .handshake) None None) store receiver peer now later long)
       (done-sound old now _ _ (sound-encrypted now now same _ (sound-confirming now now same _ receiver
       (sound-sessions _ now (sound-handshake c now later _ (on-both-none (c .handshake) now (later .within .handshake))) _
@@ -353,7 +318,8 @@ module _ (old now : ℕ) (l : old ≤ now) where
   respond-sound c store local peer outcome w =
       known-completed (λ (y : Turn). SoundOut (y .out) old now) _ _ _ (λ n. refuse-sound old now c n w)
       (λ h s p.
-      let e : (appendMac1AndMac2 (c .handshake) local ≡ h) × (newSession local peer Responder now ≡ s) = initiation-opened (c .handshake) h local peer outcome now s p in
+      let e : (appendMac1AndMac2 (c .handshake) local ≡ h) × (newSession local peer Responder now ≡ s)
+      = initiation-opened (c .handshake) h local peer outcome now s p in
       rw (← e .0, ← e .1) (done-sound old now _ _ (sound-responding now now (same old now l c w) c store local peer (later old now l c w))))
 
   pub initiation-sound : (c : Control) (store : List ℕ) (peer outcome : ℕ) → SoundControl c old

@@ -22,7 +22,24 @@ use Rattle.sessions.specs.Session.{
   sendingCounterExhausted,
   emptySession,
 }
-use Rattle.sessions.specs.Sessions.{caseFound, Held, emptySlots, put, currentOf, inserting, insert, select, setCurrent, nextIndex, usable, sendingSession, clear, emptied, expire}
+use Rattle.sessions.specs.Sessions.{
+  caseFound,
+  Held,
+  emptySlots,
+  put,
+  currentOf,
+  inserting,
+  insert,
+  select,
+  setCurrent,
+  nextIndex,
+  usable,
+  sendingSession,
+  clear,
+  emptied,
+  expire,
+  get,
+}
 use Rattle.sessions.specs.declared.session.Reserved.{Reserved}
 use Rattle.sessions.specs.declared.session.Reserved.the-variants.{TooFew, First}
 use Rattle.sessions.specs.declared.session.Role.{Role}
@@ -40,9 +57,23 @@ use Rattle.tunnel.specs.declared.control.Control.{Control}
 use Rattle.tunnel.specs.declared.event.Event.{Event}
 use Rattle.tunnel.specs.declared.handshake.Handshake.{Handshake}
 use Rattle.tunnel.specs.declared.timers.Timers.{Timers}
-use Rattle.tunnel.proofs.Later.{current-within, control-later}
+use Rattle.tunnel.proofs.Later.{current-within, control-later, get-within}
 use Rattle.tunnel.proofs.Queue.{queue-of-newest}
-use Rattle.tunnel.proofs.Steps.{of-choice, of-found, with-timers, with-handshake, with-sessions, of-expire, on-expire, on-clear-sessions, queued-within}
+use Rattle.tunnel.proofs.Steps.{
+  of-choice,
+  of-found,
+  with-timers,
+  with-handshake,
+  with-sessions,
+  of-expire,
+  on-expire,
+  on-clear-sessions,
+  queued-within,
+}
+use Rattle.sessions.specs.Batch.{started, batchOf, withProgress, receivingSession, Outcome, refused, answered, commit, receive}
+use Rattle.sessions.specs.declared.batch.Progress.{Progress}
+use Rattle.sessions.specs.declared.batch.Received.{Received}
+use Rattle.sessions.proofs.Received.{receiving-got, batch-within}
 
 -- what holds of every case holds of the choice by cases, with the case known
 module _ {A : Type 0} (P : A → Type 0) where
@@ -189,6 +220,50 @@ module _ (most : ℕ) where
         within = on-clear-sessions most s store (w .within);
         eight = of-choice (λ (x : Held). length (x .sessions .slots) ≡ 8) _ _ _ eight-empty (w .eight);
       }
+
+-- the window's next after a batch
+batch-next : (store : List ℕ) (x : Session) (counters kinds : List ℕ) → x .next ≤ limit → batchOf store x counters kinds .progress .next ≤ limit
+unfolding started
+batch-next store x counters kinds h = batch-within _ (started x) counters kinds h
+
+-- what the sessions make of a batch
+pub record SoundReceived (r : Received) (most : ℕ) : Type 0 where
+  pub sessions : SoundSessions (r .sessions) most
+  pub established : r .«established_at» ≤ most
+
+module _ (most : ℕ) where
+  progress-within : (x : Session) (k : ℕ) (p : Progress) → SlotWithin x k most → p .next ≤ limit → OwnSlot (withProgress x p) most
+  unfolding withProgress
+  progress-within x k p w h =
+      of-choice (λ (y : Session). OwnSlot y most) _ _ _
+      (record { established = w .established; counter = w .counter; next = h; index = refl })
+      (record { established = w .established; counter = w .counter; next = h; index = refl })
+
+  refused-sound : (s : Sessions) (number : ℕ) → SoundSessions s most → SoundReceived (refused s number) most
+  unfolding refused
+  refused-sound s number w = record { sessions = w; established = omega arith }
+
+  answered-sound : (s : Sessions) (x : Session) (k : ℕ) (p : Progress) → SoundSessions s most → SlotWithin x k most → p .next ≤ limit
+      → SoundReceived (answered s x p) most
+  unfolding answered
+  answered-sound s x k p w v h = record { sessions = put-sound most s _ w (progress-within x k p v h); established = v .established }
+
+  commit-sound : (s : Sessions) (store : List ℕ) (index id now : ℕ) (counters kinds verdicts : List ℕ) → SoundSessions s most
+      → SoundReceived (commit s store index id now counters kinds verdicts .received) most
+  unfolding commit
+  commit-sound s store index id now counters kinds verdicts w =
+      known-found (λ (y : Outcome). SoundReceived (y .received) most) (receivingSession s index id now) _ _ (refused-sound s 12 w)
+      (λ x p.
+      let v : SlotWithin x (slotIn index) most = get-within s most (w .within) (get s index) x (receiving-got s index id now x p) index refl in
+      answered-sound s x (slotIn index) _ w v (batch-next store x counters kinds (v .next)))
+
+  pub receive-sound : (s : Sessions) (store : List ℕ) (index id now : ℕ) (counters kinds verdicts : List ℕ) → SoundSessions s most
+      → SoundReceived (receive s store index id now counters kinds verdicts .received) most
+  unfolding receive
+  receive-sound s store index id now counters kinds verdicts w =
+      of-choice (λ (y : Outcome). SoundReceived (y .received) most) _ _ _
+      (of-choice (λ (y : Outcome). SoundReceived (y .received) most) _ _ _ (commit-sound s store index id now counters kinds verdicts w) (refused-sound s 2 w))
+      (refused-sound s 2 w)
 
 -- a control that is sound below one time is sound below every later one
 pub sound-later : (a b : ℕ) → a ≤ b → (c : Control) → SoundControl c a → SoundControl c b

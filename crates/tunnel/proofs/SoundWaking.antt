@@ -23,13 +23,25 @@ use Rattle.tunnel.specs.Waking.{
   wake,
 }
 use Rattle.tunnel.specs.declared.control.Control.{Control}
-use Rattle.tunnel.specs.declared.event.Event.the-variants.{SendHandshakeInitiation, SendKeepalive}
+use Rattle.tunnel.specs.declared.event.Event.the-variants.{SendHandshakeInitiation, SendKeepalive, ConnectionExpired}
 use Rattle.tunnel.specs.declared.transport.Datagram.{Datagram}
 use Rattle.tunnel.specs.declared.transport.Datagram.the-variants.{Skipped, Sent}
 use Rattle.tunnel.specs.declared.transport.Encrypted.{Encrypted}
 use Rattle.tunnel.proofs.Facts.{no-times}
-use Rattle.tunnel.proofs.Kept.{first-within, on-clear, on-expired, on-clear-cookie, on-sent, on-kept, on-schedule, on-cancel, on-consume, on-initiate, on-initiation}
-use Rattle.tunnel.proofs.Steps.{of-choice, on-ended}
+use Rattle.tunnel.proofs.Kept.{
+  first-within,
+  on-clear,
+  on-expired,
+  on-clear-cookie,
+  on-sent,
+  on-kept,
+  on-schedule,
+  on-cancel,
+  on-consume,
+  on-initiate,
+  on-initiation,
+}
+use Rattle.tunnel.proofs.Steps.{of-choice}
 use Rattle.tunnel.proofs.Wakings.{WakingKeeps, of-wake}
 use Rattle.tunnel.proofs.SoundSteps.{
   known-found,
@@ -49,7 +61,7 @@ use Rattle.tunnel.proofs.SoundSteps.{
 }
 
 -- what holds of a keepalive skipped and of every one sent holds of both
-of-datagram : {A : Type 0} (P : A → Type 0) (d : Datagram) (x : A) (f : ℕ → ℕ → A) → P x → ((a b : ℕ) → P (f a b)) → P (caseDatagram d x f)
+pub of-datagram : {A : Type 0} (P : A → Type 0) (d : Datagram) (x : A) (f : ℕ → ℕ → A) → P x → ((a b : ℕ) → P (f a b)) → P (caseDatagram d x f)
 unfolding caseDatagram
 of-datagram P Skipped x f p q = p
 of-datagram P (Sent a b) x f p q = q a b
@@ -124,7 +136,8 @@ module _ (most now : ℕ) (h : now ≤ most) where
   unfolding expireControl
   sound-ended c store w =
       sound-queued _ most
-      (sound-cleared _ store (sound-handshake c most w (setExpired (c .handshake)) (on-expired (c .handshake) most (w .within .handshake)))) _ (on-ended most)
+      (sound-cleared _ store (sound-handshake c most w (setExpired (c .handshake)) (on-expired (c .handshake) most (w .within .handshake)))) ConnectionExpired
+      (no-times _ most (λ x y p. let z : _≡_ {A = ℕ} 0 1 = cc in omega arith))
 
   sound-scheduling : (jitter : ℕ) → jitter ≤ maxJitter → (c : Control) → SoundControl c most → SoundControl (scheduling c jitter now) most
   unfolding scheduling

@@ -3,12 +3,26 @@
 use mathlib.Core.Path.{_≡_, refl}
 use mathlib.Core.Bool.{Bool, true, false}
 use mathlib.Core.List.{List, [], _∷_}
-use Prim.Native.Nat.{ℕ, zero, suc, _≤_, _<_}
+use Prim.Native.Nat.{ℕ, zero, suc, _<_}
 use native.Mathlib.Omega.{arith}
 use lib.ListN.{length, getD, set, getD-replicate}
 use Rattle.base.specs.Choice.{choose}
 use Rattle.sessions.specs.Session.{caseReserved, emptySession}
-use Rattle.sessions.specs.Sessions.{caseFound, withSlots, withCurrent, Held, emptySlots, clear, slotAt, emptied, Expiring, discard, expireSlot, expireFirst, expire}
+use Rattle.sessions.specs.Sessions.{
+  caseFound,
+  withSlots,
+  withCurrent,
+  Held,
+  emptySlots,
+  clear,
+  slotAt,
+  emptied,
+  Expiring,
+  discard,
+  expireSlot,
+  expireFirst,
+  expire,
+}
 use Rattle.sessions.specs.Store.{Leaves}
 use Rattle.sessions.specs.declared.session.Reserved.{Reserved}
 use Rattle.sessions.specs.declared.session.Reserved.the-variants.{TooFew, First}
@@ -21,20 +35,19 @@ use Rattle.sessions.specs.declared.sessions.Selected.the-variants.{Unset}
 use Rattle.sessions.specs.declared.sessions.Sessions.{Sessions}
 use Rattle.tunnel.specs.Control.{withHandshake, withSessions, withTimers, queueing}
 use Rattle.tunnel.specs.Facts.{SlotWithin, SessionsWithin, EventWithin, ControlWithin}
-use Rattle.tunnel.specs.Handshake.{HandshakeWithin, setExpired}
+use Rattle.tunnel.specs.Handshake.{HandshakeWithin}
 use Rattle.tunnel.specs.Messages.{initiate, initiating}
 use Rattle.tunnel.specs.RingBuffer.{RingWithin}
-use Rattle.tunnel.specs.Timers.{TimersWithin, maxJitter, tickPersistentKeepalive, cancelScheduledHandshake, consumePassiveKeepalive}
+use Rattle.tunnel.specs.Timers.{TimersWithin, consumePassiveKeepalive}
 use Rattle.tunnel.specs.Transport.{encryptKeepalive}
-use Rattle.tunnel.specs.Waking.{clearAll, expireControl, scheduling, expireCookie}
+use Rattle.tunnel.specs.Waking.{clearAll, expireCookie}
 use Rattle.tunnel.specs.declared.control.Control.{Control}
 use Rattle.tunnel.specs.declared.event.Event.{Event}
-use Rattle.tunnel.specs.declared.event.Event.the-variants.{ConnectionExpired}
 use Rattle.tunnel.specs.declared.handshake.Handshake.{Handshake}
 use Rattle.tunnel.specs.declared.messages.Initiated.{Initiated}
 use Rattle.tunnel.specs.declared.timers.Timers.{Timers}
 use Rattle.tunnel.specs.declared.transport.Encrypted.{Encrypted}
-use Rattle.tunnel.proofs.Kept.{on-clear, on-push, on-expired, on-kept, on-schedule, on-cancel, on-consume, on-clear-cookie}
+use Rattle.tunnel.proofs.Kept.{on-push, on-consume, on-clear-cookie}
 
 -- what holds of every side of a choice holds of the choice
 module _ {A : Type 0} (P : A → Type 0) where
@@ -111,14 +124,6 @@ module _ (most : ℕ) where
   on-clear-sessions s store w =
       of-choice (λ (x : Held). SessionsWithin (x .sessions) most) _ _ _ (on-selected most (withSlots s emptySlots) Unset (all-empty s)) w
 
-  -- the end of the connection as an event
-  pub on-ended : EventWithin ConnectionExpired most
-  on-ended =
-      record {
-        started = λ a b p. let z : _≡_ {A = ℕ} 0 1 = cc in absurd (omega arith);
-        confirmed = λ a b p. let z : _≡_ {A = ℕ} 0 1 = cc in absurd (omega arith);
-      }
-
 -- a control with one part given anew
 module _ (c : Control) (most : ℕ) (w : ControlWithin c most) where
   pub with-timers : (t : Timers) → TimersWithin t most → ControlWithin (withTimers c t) most
@@ -134,16 +139,6 @@ module _ (c : Control) (most : ℕ) (w : ControlWithin c most) where
   pub consumed-within : (t : Timers) → t ≡ consumePassiveKeepalive (c .timers) → ControlWithin (withTimers c t) most
   consumed-within t e = with-timers t (rw e (on-consume (c .timers) most (w .timers)))
 
-  pub cancelled-within : (t : Timers) → t ≡ cancelScheduledHandshake (c .timers) → ControlWithin (withTimers c t) most
-  cancelled-within t e = with-timers t (rw e (on-cancel (c .timers) most (w .timers)))
-
-  pub ticked-within : (t : Timers) (now : ℕ) → now ≤ most → t ≡ tickPersistentKeepalive (c .timers) now → ControlWithin (withTimers c t) most
-  ticked-within t now h e = with-timers t (rw e (on-kept (c .timers) most now (w .timers) h))
-
-  pub scheduled-within : (jitter now : ℕ) → now ≤ most → jitter ≤ maxJitter → ControlWithin (scheduling c jitter now) most
-  unfolding scheduling
-  scheduled-within jitter now h j = with-timers _ (on-schedule (c .timers) most now (w .timers) h jitter j)
-
   pub cookie-within : (x : Control) (now : ℕ) → x ≡ expireCookie c now → ControlWithin x most
   unfolding expireCookie
   cookie-within x now e =
@@ -152,17 +147,6 @@ module _ (c : Control) (most : ℕ) (w : ControlWithin c most) where
   pub expiry-within : (e : Expired) (store left : List ℕ) (now : ℕ)
       → Leaves e (expire (c .sessions) store now .expired) left (expire (c .sessions) store now .store) → ControlWithin (withSessions c (e .sessions)) most
   expiry-within e store left now l = with-sessions (e .sessions) (rw (l .out) (on-expire most (c .sessions) store now (w .sessions)))
-
-  pub cleared-within : (store : List ℕ) (now : ℕ) → now ≤ most → ControlWithin (clearAll c store now .control) most
-  unfolding clearAll
-  cleared-within store now h =
-      record {
-        timers = on-clear (c .timers) most now (w .timers) h;
-        handshake = w .handshake;
-        first = w .first;
-        sessions = on-clear-sessions most (c .sessions) store (w .sessions);
-        events = w .events;
-      }
 
   pub queued-within : (event : Event) → length (c .events .slots) ≡ 16 → EventWithin event most → ControlWithin (queueing c event) most
   unfolding queueing
@@ -174,14 +158,6 @@ module _ (c : Control) (most : ℕ) (w : ControlWithin c most) where
         sessions = w .sessions;
         events = on-push most (c .events) long (w .events) event v;
       }
-
--- the connection ended
-module _ (c : Control) (most : ℕ) (w : ControlWithin c most) where
-  pub ended-within : (store : List ℕ) (now : ℕ) → now ≤ most → length (c .events .slots) ≡ 16 → ControlWithin (expireControl c store now .control) most
-  unfolding expireControl clearAll
-  ended-within store now h long =
-      let v : ControlWithin (withHandshake c (setExpired (c .handshake))) most = with-handshake c most w _ (on-expired (c .handshake) most (w .handshake)) in
-      queued-within _ most (cleared-within (withHandshake c (setExpired (c .handshake))) most v store now h) ConnectionExpired long (on-ended most)
 
 -- what an encrypted keepalive's control queues
 abbrev RingOf : Encrypted → Type 0

@@ -24,7 +24,7 @@ use Rattle.tunnel.specs.declared.control.Control.{Control}
 use Rattle.tunnel.specs.declared.tunnel.Tunnel.{Tunnel}
 use Rattle.tunnel.proofs.Steps.{of-choice, of-found}
 use Rattle.tunnel.specs.Sound.{StoreLaw}
-use Rattle.tunnel.proofs.SoundOperations.{known-completed}
+use Rattle.tunnel.proofs.Opened.{known-completed}
 use Rattle.tunnel.proofs.Wakings.{WakingKeeps, of-wake}
 
 -- a store of 1,024 words

@@ -7,6 +7,7 @@ pub mod Event
 pub mod Facts
 pub mod Handshake
 pub mod Messages
+pub mod Quiet
 pub mod RingBuffer
 pub mod Sound
 pub mod Timers

@@ -35,7 +35,7 @@ pub(crate) fn text(lines: &[Vec<u8>]) -> Vec<u8> {
 }
 
 /// Removes ever smaller pieces of a list while `keeps` holds of what is left.
-fn shrink<T: Clone>(list: &[T], keeps: &impl Fn(&[T]) -> bool) -> Vec<T> {
+pub(crate) fn shrink<T: Clone>(list: &[T], keeps: &impl Fn(&[T]) -> bool) -> Vec<T> {
     let mut list = list.to_vec();
     let mut piece = list.len().div_ceil(2).max(1);
 

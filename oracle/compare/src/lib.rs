@@ -3,9 +3,12 @@
 mod comparison;
 mod cut;
 mod exhaustive;
+mod insertion;
 mod maker;
 mod moves;
 mod noise;
+mod pair;
+mod pairing;
 mod plots;
 mod profiles;
 mod programs;
@@ -15,5 +18,8 @@ mod times;
 
 pub use comparison::Comparison;
 pub use exhaustive::Exhaustive;
+pub use insertion::make_pair;
 pub use maker::{Script, make_script};
+pub use pair::{Judgement, Pair, Step, judge};
+pub use pairing::Pairing;
 pub use profiles::profile_name;

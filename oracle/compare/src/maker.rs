@@ -2,6 +2,7 @@
 
 use oracle::{Answer, Call, Driver, View, ViewSession};
 
+use crate::insertion::Insertion;
 use crate::profiles::{self, Profile};
 use crate::random::Random;
 
@@ -41,11 +42,13 @@ pub(crate) struct Maker {
     lines: Vec<Vec<u8>>,
     length: usize,
     peers: u32,
+    /// The extra wakings, where a pair of scripts is made.
+    pub(crate) insertion: Option<Insertion>,
 }
 
 impl Maker {
     /// A script without a line.
-    fn new(seed: u64, length: usize) -> Self {
+    pub(crate) fn new(seed: u64, length: usize) -> Self {
         let mut random = Random::new(seed);
         let peers = random.next() as u32;
 
@@ -56,6 +59,7 @@ impl Maker {
             lines: Vec::with_capacity(length + 32),
             length,
             peers,
+            insertion: None,
         }
     }
 
@@ -70,7 +74,7 @@ impl Maker {
     }
 
     /// Adds a few lines: a plot, a single call, or a new tunnel once this one is expired.
-    fn go_on(&mut self) {
+    pub(crate) fn go_on(&mut self) {
         let expired = self.view().is_some_and(|view| view.expired);
 
         if expired && self.random.percent(25) {
@@ -84,7 +88,7 @@ impl Maker {
     }
 
     /// Ends with all events, the deadline and the missing reports.
-    fn end(&mut self) {
+    pub(crate) fn end(&mut self) {
         self.drain();
         self.ask("next");
         self.all_missing();
@@ -97,6 +101,14 @@ impl Maker {
 
     /// Adds a line and gives the oracle's answer to it, if it is good.
     pub(crate) fn ask(&mut self, line: impl Into<Vec<u8>>) -> Option<Answer> {
+        match self.insertion.take() {
+            Some(insertion) => self.ask_both(insertion, &line.into()),
+            None => self.ask_driver(line),
+        }
+    }
+
+    /// Adds a line as it is.
+    pub(crate) fn ask_driver(&mut self, line: impl Into<Vec<u8>>) -> Option<Answer> {
         let line = line.into();
         let answer = self.driver.answer(&line).ok();
 

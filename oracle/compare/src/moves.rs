@@ -75,7 +75,7 @@ impl Maker {
     }
 
     /// An index for a new tunnel, often one whose low byte is about to wrap.
-    fn new_index(&mut self) -> u32 {
+    pub(crate) fn new_index(&mut self) -> u32 {
         let any = self.random.next() as u32;
 
         match self.random.below(8) {

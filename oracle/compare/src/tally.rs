@@ -69,7 +69,7 @@ impl fmt::Display for Tally {
 }
 
 /// Names with their counts on one line.
-fn list<K: fmt::Display>(counts: &BTreeMap<K, u64>) -> String {
+pub(crate) fn list<K: fmt::Display>(counts: &BTreeMap<K, u64>) -> String {
     let parts: Vec<String> = counts
         .iter()
         .map(|(name, count)| format!("{name} {count}"))

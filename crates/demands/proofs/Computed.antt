@@ -1,0 +1,181 @@
+-- The example of demand 3 meets the conditions, and each condition is needed, by computation.
+-- Assumes nothing.
+use mathlib.Core.Path.{_≡_, refl, sym, _∙_}
+use mathlib.Core.Bool.{true}
+use mathlib.Core.List.{List, [], _∷_, _++_}
+use mathlib.Core.Logic.{_⊎_, inl, inr, ⊎-elim}
+use Prim.Native.Nat.{ℕ}
+use native.Mathlib.Omega.{arith}
+use Rattle.base.specs.Choice.{choose}
+use Rattle.sessions.specs.Index.{wrappingIncrement}
+use Rattle.sessions.specs.Session.{caseTime, caseRole, caseReserved, dueBy, least, earlier, newSession, emptySession, rekeyAfterTimeOnSend, rejectAfterTimeOnReceive, expiresAt, expiredAt, shouldUseAt, rekeyAfterMessagesReached, sendingCounterExhausted, preparePacketData, reserveCounters}
+use Rattle.sessions.specs.Sessions.{caseFound, caseSelected, emptySlots, newSessions, inSlotOf, get, put, currentOf, inCurrentSlot, indexAfter, nextIndex, inserting, insert, usable, sendingSession, isIndex, select, setCurrent, clear, emptied, expiredSlot, discard, expireSlot, expireFirst, expire, noneFilled, slotExpiry, firstExpiry}
+use Rattle.sessions.specs.Store.{putSlot, zeros}
+use Rattle.tunnel.specs.Answer.{numberOf}
+use Rattle.tunnel.specs.Arguments.{intervalOf, openingOutcome, lacking, badOutcome, badJitter, creationNumber}
+use Rattle.tunnel.specs.Check.{timeHolds, stateHolds, inRange, intervalHolds, bothAtMost, eventHolds, slotHolds, slotsHold, queueHolds, eventsHold, handshakeHolds, packetTimersHold, dataTimersHold, fieldsHold, timersHold, storedHolds, controlHolds, undamaged}
+use Rattle.tunnel.specs.Control.{newControl, refuse, done, expiredControl, queueing, pollEvent}
+use Rattle.tunnel.specs.Deadlines.{scheduledHandshake, earliestExpiry, cookieDeadline, rejectDeadline, attemptDeadline, handshakeRekeyTimeout, rekeyOnSend, rekeyAfterMessages, rekeyOnReceive, responseDeadline, passiveDeadline, persistentDeadline, currentPersistentDeadline, commonDeadline, rekeyDeadline, keepaliveDeadline, unscheduledDeadline, nextDeadline, notBefore, pollTimeout}
+use Rattle.tunnel.specs.Event.{caseEvent}
+use Rattle.tunnel.specs.Handshake.{caseState, caseCompleted, newHandshake, awaits, isInProgress, inFlightInitiation, setExpired, isExpired, cookieExpiration, appendMac1AndMac2, initiateHandshake, expects, receiveHandshakeResponse}
+use Rattle.tunnel.specs.Messages.{confirming, establish, complete, handleHandshakeResponse, initiating, initiate, restartHandshake, startHandshake}
+use Rattle.tunnel.specs.RingBuffer.{placeOf, emptyPlaces, newRing, ringIsEmpty, storeAt, pushBack, popFront, eventsFrom, queued}
+use Rattle.tunnel.specs.Timers.{caseInterval, newTimers, rejectAfterTimeOf, rekeyAttemptDeadline, rekeyAfterTimeWithoutResponse, keepaliveAfterTimeWithoutSend, nextPersistentKeepalive, clearTimers, tickLastHandshakeCompleted, tickLastHandshakeStarted, tickLastPacketReceived, tickLastPacketSent, getOr, tickLastDataPacketSent, tickPersistentKeepalive, rekeyTimeoutOf, scheduleHandshake, cancelScheduledHandshake, consumePassiveKeepalive, tickCompleted, tickInitiation}
+use Rattle.tunnel.specs.Transport.{caseDatagram, beginEncapsulate, finishEncapsulate, grant, encryptKeepalive, confirmFirstSession}
+use Rattle.tunnel.specs.Tunnel.{made, gate, timelessGate, refused, settled, timed, timeless, kept, timedTurn, callNew, callStart, callSend, callResponse, callTimeout, callEvent, callDeadline}
+use Rattle.tunnel.specs.Waking.{clearAll, expireControl, scheduling, queueKeepalive, persistentKeepalive, keepalives, rekeyDue, wakeIdle, wakeInProgress, expireCookie, wakeLater, wakeRest, isLost, isReplaced, wakeCurrent, wakeSessions, sendScheduled, wake, handleTimeout}
+use Rattle.tunnel.specs.Transport as transport
+use Rattle.sessions.specs.declared.session.Time.{Time}
+use Rattle.sessions.specs.declared.session.Time.the-variants.{At}
+use Rattle.tunnel.specs.declared.answer.Answer.{Answer}
+use Rattle.tunnel.specs.declared.answer.Answer.the-variants.{No, Initiation, Polled, Deadline}
+use Rattle.tunnel.specs.declared.event.Event.the-variants.{Empty, SendKeepalive, ConnectionExpired}
+use Rattle.demands.specs.Calls.{Call, Good, step, after, created}
+use Rattle.demands.specs.Calls.Call.{start, response, timeout, event, deadline}
+use Rattle.demands.specs.Wakings.{Step, shared, extra, plainCalls, wokenCalls, took, ran, ranNew, Expired, timeOf, Alike, Agree, CreatedAlike}
+use Rattle.demands.specs.Wakings.Alike.{equal, come}
+use Rattle.demands.specs.WakingsExample.{creation, established, used, lost, example, plainAfter, wokenAfter, ExtraWakingsExample, late, unheld, disordered, ConditionsNeeded}
+use Rattle.demands.proofs.Admits.{isEleven, isAbove, testExpired, testEarly, early-is, testHeld, held-is, noneEarlier, testOrder, order-is}
+
+-- what the two tunnels, with a keepalive of so many seconds, answer to a call after some steps
+abbrev plainAnswer : ℕ → List Step → Call → Answer
+plainAnswer keepalive before call = step (after (created (creation 0 keepalive)) (plainCalls before)) call .answer
+
+abbrev wokenAnswer : ℕ → List Step → Call → Answer
+wokenAnswer keepalive before call = step (after (created (creation 1 keepalive)) (wokenCalls before)) call .answer
+
+-- the steps of each list before its last
+abbrev lateFirst : List Step
+lateFirst = extra 0 540000000000 ∷ []
+
+abbrev disorderedFirst : List Step
+disorderedFirst = extra 0 10000000000 ∷ []
+
+abbrev unheldFirst : List Step
+unheldFirst =
+    extra 0 25000000000 ∷ shared (start 25000000000) ∷ shared (response 257 9 0 26000000000) ∷ shared event ∷ shared (timeout 0 26000000000) ∷ []
+
+-- what is computed
+record Computed : Type 0 where
+  good : Good (creation 0 3600)
+  wokenGood : Good (creation 1 3600)
+  early : testEarly (created (creation 1 3600)) example ≡ true
+  held : testHeld 3600 (ranNew (creation 1 3600)) (created (creation 1 3600)) example ≡ true
+  order : testOrder example ≡ true
+  through : step (wokenAfter established) (timeout 0 130000000000) .world .tunnel .greatest ≡ 130000000000
+  refused : step (wokenAfter (established ++ extra 0 130000000000 ∷ [])) (timeout 0 129000000000) .answer ≡ No 13
+  ended : Expired (wokenAfter lost)
+  plainly : step (plainAfter used) deadline .answer ≡ Deadline (At 120001000000)
+  wakingly : step (wokenAfter used) deadline .answer ≡ Deadline (At 130000000000)
+  unset : Good (creation 0 0)
+  wokenUnset : Good (creation 1 0)
+  kept : Good (creation 0 25)
+  wokenKept : Good (creation 1 25)
+  lateHeld : testHeld 0 (ranNew (creation 1 0)) (created (creation 1 0)) late ≡ true
+  lateOrder : testOrder late ≡ true
+  latePlain : plainAnswer 0 lateFirst event ≡ Polled Empty
+  lateWoken : wokenAnswer 0 lateFirst event ≡ Polled ConnectionExpired
+  unheldEarly : testEarly (created (creation 1 25)) unheld ≡ true
+  unheldOrder : testOrder unheld ≡ true
+  unheldPlain : plainAnswer 25 unheldFirst event ≡ Polled (SendKeepalive 9 1)
+  unheldWoken : wokenAnswer 25 unheldFirst event ≡ Polled Empty
+  disorderedEarly : testEarly (created (creation 1 0)) disordered ≡ true
+  disorderedHeld : testHeld 0 (ranNew (creation 1 0)) (created (creation 1 0)) disordered ≡ true
+  disorderedPlain : plainAnswer 0 disorderedFirst (start 5000000000) ≡ Initiation 257
+  disorderedWoken : wokenAnswer 0 disorderedFirst (start 5000000000) ≡ No 13
+
+computed : Computed
+unfolding choose wrappingIncrement caseTime caseRole caseReserved dueBy least earlier newSession emptySession rekeyAfterTimeOnSend rejectAfterTimeOnReceive expiresAt expiredAt shouldUseAt rekeyAfterMessagesReached sendingCounterExhausted preparePacketData reserveCounters caseFound caseSelected emptySlots newSessions inSlotOf get put currentOf inCurrentSlot indexAfter nextIndex inserting insert usable sendingSession isIndex select setCurrent clear emptied expiredSlot discard expireSlot expireFirst expire noneFilled slotExpiry firstExpiry putSlot zeros numberOf intervalOf openingOutcome lacking badOutcome badJitter creationNumber timeHolds stateHolds inRange intervalHolds bothAtMost eventHolds slotHolds slotsHold queueHolds eventsHold handshakeHolds packetTimersHold dataTimersHold fieldsHold timersHold storedHolds controlHolds undamaged newControl refuse done expiredControl queueing pollEvent scheduledHandshake earliestExpiry cookieDeadline rejectDeadline attemptDeadline handshakeRekeyTimeout rekeyOnSend rekeyAfterMessages rekeyOnReceive responseDeadline passiveDeadline persistentDeadline currentPersistentDeadline commonDeadline rekeyDeadline keepaliveDeadline unscheduledDeadline nextDeadline notBefore pollTimeout caseEvent caseState caseCompleted newHandshake awaits isInProgress inFlightInitiation setExpired isExpired cookieExpiration appendMac1AndMac2 initiateHandshake expects receiveHandshakeResponse confirming establish complete handleHandshakeResponse initiating initiate restartHandshake startHandshake placeOf emptyPlaces newRing ringIsEmpty storeAt pushBack popFront eventsFrom queued caseInterval newTimers rejectAfterTimeOf rekeyAttemptDeadline rekeyAfterTimeWithoutResponse keepaliveAfterTimeWithoutSend nextPersistentKeepalive clearTimers tickLastHandshakeCompleted tickLastHandshakeStarted tickLastPacketReceived tickLastPacketSent getOr tickLastDataPacketSent tickPersistentKeepalive rekeyTimeoutOf scheduleHandshake cancelScheduledHandshake consumePassiveKeepalive tickCompleted tickInitiation caseDatagram beginEncapsulate finishEncapsulate grant encryptKeepalive confirmFirstSession made gate timelessGate refused settled timed timeless kept timedTurn callNew callStart callSend callResponse callTimeout callEvent callDeadline clearAll expireControl scheduling queueKeepalive persistentKeepalive keepalives rekeyDue wakeIdle wakeInProgress expireCookie wakeLater wakeRest isLost isReplaced wakeCurrent wakeSessions sendScheduled wake handleTimeout transport.send step after plainCalls wokenCalls took ran timeOf established used lost example late unheld disordered isEleven isAbove testExpired testEarly testHeld noneEarlier testOrder
+computed =
+    record {
+      good = refl;
+      wokenGood = refl;
+      early = refl;
+      held = refl;
+      order = refl;
+      through = refl;
+      refused = refl;
+      ended = refl;
+      plainly = refl;
+      wakingly = refl;
+      unset = refl;
+      wokenUnset = refl;
+      kept = refl;
+      wokenKept = refl;
+      lateHeld = refl;
+      lateOrder = refl;
+      latePlain = refl;
+      lateWoken = refl;
+      unheldEarly = refl;
+      unheldOrder = refl;
+      unheldPlain = refl;
+      unheldWoken = refl;
+      disorderedEarly = refl;
+      disorderedHeld = refl;
+      disorderedPlain = refl;
+      disorderedWoken = refl;
+    }
+
+-- two creations that differ in their stores only
+created-alike : (keepalive : ℕ) → Good (creation 0 keepalive) → Good (creation 1 keepalive) → CreatedAlike (creation 0 keepalive) (creation 1 keepalive)
+created-alike keepalive p w = record { index = refl; keepalive = refl; now = refl; plainly = p; wakingly = w }
+
+pub extra-wakings-example : ExtraWakingsExample
+extra-wakings-example =
+    record {
+      alike = created-alike 3600 (computed .good) (computed .wokenGood);
+      admissible =
+          record {
+            early = early-is _ example (computed .early);
+            held = held-is 3600 _ _ example (computed .held);
+            order = order-is example (computed .order);
+          };
+      through = computed .through;
+      refused = computed .refused;
+      ended = computed .ended;
+      plainly = computed .plainly;
+      wakingly = computed .wakingly;
+    }
+
+-- answers that differ, of which the first is no deadline, are not alike
+alike-equal : {latest : ℕ} {a b : Answer} → Alike latest a b → (a ≡ b) ⊎ ((time : Time) × (a ≡ Deadline time))
+alike-equal (equal answer) = inl refl
+alike-equal (come a b p q) = inr (At a, refl)
+
+apart : {latest : ℕ} {a b : Answer} (x y : Answer) → a ≡ x → b ≡ y → (x ≡ y → ⊥) → ((time : Time) → x ≡ Deadline time → ⊥) → Alike latest a b → ⊥
+apart x y p q differ other h = ⊎-elim (λ e. differ (sym p ∙ e ∙ q)) (λ d. other (d .0) (sym p ∙ d .1)) (alike-equal h)
+
+late-apart : Agree (creation 0 0) (creation 1 0) late → ⊥
+unfolding late
+late-apart agree =
+    apart (Polled Empty) (Polled ConnectionExpired) (computed .latePlain) (computed .lateWoken)
+    (λ e. let z : _≡_ {A = ℕ} 0 1 = cc in omega arith) (λ t e. let z : _≡_ {A = ℕ} 0 1 = cc in omega arith) (agree lateFirst [] event refl .answers)
+
+unheld-apart : Agree (creation 0 25) (creation 1 25) unheld → ⊥
+unfolding unheld
+unheld-apart agree =
+    apart (Polled (SendKeepalive 9 1)) (Polled Empty) (computed .unheldPlain) (computed .unheldWoken)
+    (λ e. let z : _≡_ {A = ℕ} 0 1 = cc in omega arith) (λ t e. let z : _≡_ {A = ℕ} 0 1 = cc in omega arith) (agree unheldFirst [] event refl .answers)
+
+disordered-apart : Agree (creation 0 0) (creation 1 0) disordered → ⊥
+unfolding disordered
+disordered-apart agree =
+    apart (Initiation 257) (No 13) (computed .disorderedPlain) (computed .disorderedWoken)
+    (λ e. let z : _≡_ {A = ℕ} 0 1 = cc in omega arith) (λ t e. let z : _≡_ {A = ℕ} 0 1 = cc in omega arith)
+    (agree disorderedFirst [] (start 5000000000) refl .answers)
+
+pub conditions-needed : ConditionsNeeded
+conditions-needed =
+    record {
+      alike = created-alike 0 (computed .unset) (computed .wokenUnset);
+      kept = created-alike 25 (computed .kept) (computed .wokenKept);
+      lateHeld = held-is 0 _ _ late (computed .lateHeld);
+      lateOrder = order-is late (computed .lateOrder);
+      lateApart = late-apart;
+      unheldEarly = early-is _ unheld (computed .unheldEarly);
+      unheldOrder = order-is unheld (computed .unheldOrder);
+      unheldApart = unheld-apart;
+      disorderedEarly = early-is _ disordered (computed .disorderedEarly);
+      disorderedHeld = held-is 0 _ _ disordered (computed .disorderedHeld);
+      disorderedApart = disordered-apart;
+    }

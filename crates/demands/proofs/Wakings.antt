@@ -1,0 +1,382 @@
+-- Demand 3: extra wakings that come early, or find the tunnel expired, leave the two tunnels twins, and so every shared call gives both the same.
+-- Assumes nothing.
+use mathlib.Core.Path.{_≡_, refl, ap, sym, subst, _∙_}
+use mathlib.Core.Bool.{Bool, true, false}
+use mathlib.Core.List.{List, [], _∷_, _++_}
+use mathlib.Core.Logic.{_⊎_, inl, inr, ⊎-elim}
+use Prim.Native.Nat.{ℕ, _≤_, _<_}
+use native.Mathlib.Omega.{arith}
+use lib.Dec.{ltb, leb, eqb}
+use borrow.Author.Tests.{le-ltb, lt-leb, eqb-true}
+use Rattle.base.specs.Choice.{choose}
+use Rattle.sessions.specs.Session.{caseTime, dueBy, timeLimit}
+use Rattle.sessions.specs.Store.{zeros}
+use Rattle.sessions.specs.declared.session.Session.{Session}
+use Rattle.sessions.specs.declared.session.Time.{Time}
+use Rattle.sessions.specs.declared.session.Time.the-variants.{Never, At}
+use Rattle.tunnel.specs.Arguments.{intervalOf, badJitter, creationNumber}
+use Rattle.tunnel.specs.Check.{undamaged}
+use Rattle.tunnel.specs.Control.{Inner, Turn, newControl, refuse, done, expiredControl, pollEvent, missingReport}
+use Rattle.tunnel.specs.Deadlines.{nextDeadline, notBefore, pollTimeout}
+use Rattle.tunnel.specs.Quiet.{Early}
+use Rattle.tunnel.specs.RingBuffer.{ringIsEmpty}
+use Rattle.tunnel.specs.Sound.{Sound}
+use Rattle.tunnel.specs.Timers.{newTimers}
+use Rattle.tunnel.specs.Transport.{grant, finishEncapsulate}
+use Rattle.tunnel.specs.Transport as transport
+use Rattle.tunnel.specs.Tunnel.{made, gate, timelessGate, refused, settled, timed, timeless, kept, timedTurn, timedBatch, Called, callNew, callStart, callRestart, callSend, callReceive, callLook, callInitiation, callResponse, callCookie, callTimeout, callEvent, callMissing}
+use Rattle.tunnel.specs.Waking.{handleTimeout}
+use Rattle.tunnel.specs.declared.answer.Answer.{Answer}
+use Rattle.tunnel.specs.declared.answer.Answer.the-variants.{No, Done, Deadline}
+use Rattle.tunnel.specs.declared.control.Control.{Control}
+use Rattle.tunnel.specs.declared.control.Out.{Out}
+use Rattle.tunnel.specs.declared.timers.Interval.the-variants.{Off}
+use Rattle.tunnel.specs.declared.tunnel.Answered.{Answered}
+use Rattle.tunnel.specs.declared.tunnel.Tunnel.{Tunnel}
+use Rattle.tunnel.proofs.Facts.{undamaged-facts}
+use Rattle.tunnel.proofs.Framed.{open-onward}
+use Rattle.tunnel.proofs.Quiet.{quiet-law, deadline-law}
+use Rattle.tunnel.proofs.SoundOperations.{of-missing}
+use Rattle.tunnel.proofs.Steps.{of-choice, of-found, of-reserved}
+use Rattle.demands.specs.Calls.{Call, World, step, after, Creation, created, Good}
+use Rattle.demands.specs.Calls.Call.{start, restart, send, receive, look, initiation, response, cookie, timeout, event, deadline, missing}
+use Rattle.demands.specs.Wakings.{Step, shared, extra, plainCalls, wokenCalls, Ran, took, ran, ranAfter, ranNew, Current, Expired, BeforeDeadline, NotEarlier, ComesEarly, CurrentOrUnset, InOrder, Admissible, Same, CreatedAlike, ExtraWakingsLaw}
+use Rattle.demands.proofs.Grown.{sound-created, sound-step}
+use Rattle.demands.proofs.Setting.{setting-stays}
+use Rattle.demands.proofs.Twins.{Twins, Pair, deadline-still, calls-alike}
+
+-- the Rust's state that a tunnel and a store stand for
+abbrev ranOf : Tunnel → List ℕ → Ran
+ranOf t store = record { control = t .control; store = store; clock = t .greatest }
+
+-- what the Rust takes is what the checks let through
+module _ (t : Tunnel) (store : List ℕ) (u : undamaged t ≡ true) where
+  took-is : (bad : Bool) (now : ℕ) (out : Out) (left : List ℕ)
+      → took (ranOf t store) bad now out left ≡ ranOf (timed t bad now out .tunnel) (kept t bad now store left)
+  unfolding took timed kept gate settled refused choose
+  took-is bad now out left = go (ltb timeLimit now) bad (ltb now (t .greatest)) refl refl
+    where
+      go : (late is back : Bool) → ltb timeLimit now ≡ late → ltb now (t .greatest) ≡ back
+          → took (ranOf t store) is now out left ≡ ranOf (timed t is now out .tunnel) (kept t is now store left)
+      go true is back e f = rw e refl
+      go false true back e f = rw e refl
+      go false false true e f = rw (e, f, u) refl
+      go false false false e f = rw (e, f, u) refl
+
+  kept-same : (bad : Bool) (now : ℕ) → kept t bad now store store ≡ store
+  unfolding kept
+  kept-same bad now = of-choice (λ (s : List ℕ). s ≡ store) _ _ _ refl refl
+
+  took-plain : (bad : Bool) (now : ℕ) (out : Out) → took (ranOf t store) bad now out store ≡ ranOf (timed t bad now out .tunnel) store
+  took-plain bad now out = took-is bad now out store ∙ ap (ranOf (timed t bad now out .tunnel)) (kept-same bad now)
+
+  -- an outcome that leaves the control and raises nothing
+  record Stays (out : Out) : Type 0 where
+    control : out .control ≡ t .control
+    raises : out .raises ≡ false
+
+  missing-stays : (index : ℕ) → Stays (missingReport (t .control) store index)
+  unfolding missingReport refuse
+  missing-stays index = of-missing Stays _ _ _ (λ n. record { control = refl; raises = refl }) (λ n. record { control = refl; raises = refl })
+
+  stays-settled : (out : Out) → Stays out → ranOf t store ≡ ranOf (settled t 0 out .tunnel) store
+  unfolding settled choose
+  stays-settled out h = rw (h .control, h .raises) refl
+
+  stays-timeless : (bad : Bool) (out : Out) → Stays out → ranOf t store ≡ ranOf (timeless t bad out .tunnel) store
+  unfolding timeless refused
+  stays-timeless bad out h = of-choice (λ (a : Answered). ranOf t store ≡ ranOf (a .tunnel) store) _ _ _ (stays-settled out h) refl
+
+  event-is : ran (ranOf t store) event ≡ ranOf (callEvent t .tunnel) store
+  unfolding ran callEvent timeless timelessGate settled pollEvent choose
+  event-is = rw u refl
+
+-- the Rust after a call
+ran-step : (w : World) (call : Call) → undamaged (w .tunnel) ≡ true
+    → ran (ranOf (w .tunnel) (w .store)) call ≡ ranOf (step w call .world .tunnel) (step w call .world .store)
+unfolding ran step callStart callRestart callSend callReceive callLook callInitiation callResponse callCookie callTimeout callMissing timedTurn timedBatch
+ran-step w (start now) u = took-plain (w .tunnel) (w .store) u _ now _
+ran-step w (restart now) u = took-plain (w .tunnel) (w .store) u _ now _
+ran-step w (send count now) u = took-plain (w .tunnel) (w .store) u _ now _
+ran-step w (receive index id now counters kinds verdicts) u = took-is (w .tunnel) (w .store) u _ now _ _
+ran-step w (look index counter now) u = took-plain (w .tunnel) (w .store) u _ now _
+ran-step w (initiation peer outcome now) u = took-is (w .tunnel) (w .store) u _ now _ _
+ran-step w (response receiver peer outcome now) u = took-is (w .tunnel) (w .store) u _ now _ _
+ran-step w (cookie receiver outcome now) u = took-plain (w .tunnel) (w .store) u _ now _
+ran-step w (timeout jitter now) u = took-is (w .tunnel) (w .store) u _ now _ _
+ran-step w event u = event-is (w .tunnel) (w .store) u
+ran-step w deadline u = ap (λ (t : Tunnel). ranOf t (w .store)) (sym (deadline-still (w .tunnel) u))
+ran-step w (missing index) u = stays-timeless (w .tunnel) (w .store) u _ _ (missing-stays (w .tunnel) (w .store) u index)
+
+-- a tunnel that would give 11 is expired: no other way of sending gives it
+abbrev NotEleven : Out → Type 0
+NotEleven out = out .answer ≡ No 11 → ⊥
+
+twelve : (answer : Answer) → answer ≡ No 12 → answer ≡ No 11 → ⊥
+twelve answer a b = let z : _≡_ {A = ℕ} 12 11 = cc in omega arith
+
+not-granted : (c : Control) (s : Session) (count now : ℕ) → NotEleven (grant c s count now)
+unfolding grant finishEncapsulate done
+not-granted c s count now =
+    of-reserved NotEleven _ _ _ (λ e. twelve _ refl e) (λ n x e. let z : _≡_ {A = ℕ} 0 1 = cc in omega arith)
+
+of-eleven : (ended : Bool) (c : Control) (rest : Out) → NotEleven rest → choose ended (refuse c 11) rest .answer ≡ No 11 → ended ≡ true
+unfolding choose
+of-eleven true c rest h e = refl
+of-eleven false c rest h e = absurd (h e)
+
+eleven-expired : (c : Control) (count now : ℕ) → transport.send c count now .answer ≡ No 11 → expiredControl c ≡ true
+unfolding transport.send refuse
+eleven-expired c count now e =
+    of-eleven (expiredControl c) c _ (of-found NotEleven _ _ _ (λ z. twelve _ refl z) (λ s. not-granted c s count now)) e
+
+-- a call at a time that the checks let through, and one that they turn down
+module _ (t : Tunnel) (bad : Bool) (now : ℕ) where
+  gate-open : undamaged t ≡ true → bad ≡ false → now ≤ timeLimit → t .greatest ≤ now → gate t bad now ≡ 0
+  unfolding gate choose
+  gate-open u b l g = rw (le-ltb timeLimit now l, b, u, le-ltb now (t .greatest) g) refl
+
+  timed-open : (out : Out) → gate t bad now ≡ 0 → timed t bad now out .answer ≡ out .answer
+  unfolding timed settled choose
+  timed-open out e = rw e refl
+
+expired-control : (w : World) → undamaged (w .tunnel) ≡ true → Expired w → expiredControl (w .tunnel .control) ≡ true
+unfolding step callSend
+expired-control w u e =
+    let g = w .tunnel .greatest in
+    let o = gate-open (w .tunnel) false g u refl (undamaged-facts (w .tunnel) u .latest) (omega arith) in
+    eleven-expired (w .tunnel .control) 1 g (sym (timed-open (w .tunnel) false g _ o) ∙ e)
+
+-- a time before the reported deadline and not before the last update is before the next deadline
+before-next : (t : Bool) (at last due now : ℕ) → ltb at last ≡ t → At (choose t last at) ≡ At due → now < due → last ≤ now → leb at now ≡ false
+unfolding choose
+before-next true at last due now e p b l = let q : last ≡ due = cc in absurd (omega arith)
+before-next false at last due now e p b l = let q : at ≡ due = cc in lt-leb at now (omega arith)
+
+before-due : (ended quiet : Bool) (next : Time) (last due now : ℕ) → choose ended Never (choose quiet (notBefore next last) (At last)) ≡ At due
+    → now < due → last ≤ now → dueBy next now ≡ false
+unfolding choose notBefore dueBy caseTime
+before-due true quiet next last due now p b l = let z : _≡_ {A = ℕ} 0 1 = cc in absurd (omega arith)
+before-due false true Never last due now p b l = refl
+before-due false true (At at) last due now p b l = before-next (ltb at last) at last due now refl p b l
+before-due false false next last due now p b l = let q : last ≡ due = cc in absurd (omega arith)
+
+before-deadline : (w : World) (now : ℕ) → undamaged (w .tunnel) ≡ true → w .tunnel .greatest ≤ now → BeforeDeadline w now
+    → dueBy (nextDeadline (w .tunnel .control)) now ≡ false
+unfolding step pollTimeout
+before-deadline w now u g b =
+    let a : Deadline (pollTimeout (w .tunnel .control) (w .tunnel .«last_update»)) ≡ Deadline (At (b .0)) =
+    sym (deadline-law (w .tunnel) .answer u) ∙ b .1 in
+    let l = undamaged-facts (w .tunnel) u .updated in
+    before-due (expiredControl (w .tunnel .control)) (ringIsEmpty (w .tunnel .control .events)) _ (w .tunnel .«last_update») (b .0) now (cc) (b .2) (omega arith)
+
+-- a waking that finds the tunnel expired, or comes early, leaves the control and the store
+record Still (c : Control) (kept : List ℕ) (turn : Turn) : Type 0 where
+  control : turn .out .control ≡ c
+  store : turn .store ≡ kept
+  raises : turn .out .raises ≡ true
+
+still-turn : (c : Control) (kept : List ℕ) (jitter now : ℕ) (ended : Bool) → expiredControl c ≡ ended → (ended ≡ false → Early c now)
+    → Still c kept (handleTimeout c kept jitter now)
+unfolding handleTimeout done choose
+still-turn c kept jitter now true e h = rw e (record { control = refl; store = refl; raises = refl })
+still-turn c kept jitter now false e h =
+    let q = quiet-law c kept jitter now .quiet (h refl) in
+    rw e (record { control = ap (λ (i : Inner). i .control) q; store = ap (λ (i : Inner). i .store) q; raises = refl })
+
+-- and twins as they were; let through, it is the latest extra waking
+module _ {latest : ℕ} (p w : World) (h : Twins latest p w) (bad : Bool) (now : ℕ) (turn : Turn) where
+  abbrev Left : World
+  Left =
+      record {
+        tunnel = timedTurn (w .tunnel) bad now (w .store) turn .answered .tunnel;
+        store = timedTurn (w .tunnel) bad now (w .store) turn .store;
+      }
+
+  left-twins : (w .tunnel .greatest ≤ now → Still (w .tunnel .control) (w .store) turn) → Twins latest p Left ⊎ Twins now p Left
+  unfolding timedTurn timed kept settled refused choose
+  left-twins k = go (eqb (gate (w .tunnel) bad now) 0) refl
+    where
+      go : (t : Bool) → eqb (gate (w .tunnel) bad now) 0 ≡ t → Twins latest p Left ⊎ Twins now p Left
+      go false e = rw e (inl h)
+      go true e =
+          let g = open-onward (w .tunnel) bad now _ refl (eqb-true _ 0 e) in
+          let s = k g in
+          let o = h .tunnels .older in
+          rw e (inr (record {
+            tunnels =
+                record {
+                  control = h .tunnels .control ∙ sym (s .control);
+                  older = rw (s .raises) (omega arith);
+                  bound = λ time l b. rw (s .raises) l;
+                };
+            store = h .store ∙ sym (s .store);
+          }))
+
+-- the conditions on steps that begin at any world, with the Rust's state there
+record AdmissibleFrom (keepalive : ℕ) (r : Ran) (w : World) (steps : List Step) : Type 0 where
+  early : ComesEarly w steps
+  held : CurrentOrUnset keepalive r w steps
+  order : InOrder steps
+
+-- every shared call is not earlier than a time
+abbrev Ordered : ℕ → List Step → Type 0
+Ordered latest steps = (between later : List Step) (call : Call) → steps ≡ between ++ shared call ∷ later → NotEarlier latest call
+
+module _ (keepalive : ℕ) (r : Ran) (w : World) (steps : List Step) where
+  -- they hold of the steps after the first
+  from-shared : (call : Call) → AdmissibleFrom keepalive r w (shared call ∷ steps) → AdmissibleFrom keepalive (ran r call) (step w call .world) steps
+  unfolding after wokenCalls ranAfter
+  from-shared call a =
+      record {
+        early = λ before later jitter now e. a .early (shared call ∷ before) later jitter now (ap (λ (s : List Step). shared call ∷ s) e);
+        held = λ before later jitter now e. a .held (shared call ∷ before) later jitter now (ap (λ (s : List Step). shared call ∷ s) e);
+        order = λ before between later jitter now x e. a .order (shared call ∷ before) between later jitter now x (ap (λ (s : List Step). shared call ∷ s) e);
+      }
+
+  module _ (j n : ℕ) (a : AdmissibleFrom keepalive r w (extra j n ∷ steps)) where
+    from-extra : AdmissibleFrom keepalive (ran r (timeout j n)) (step w (timeout j n) .world) steps
+    unfolding after wokenCalls ranAfter
+    from-extra =
+        record {
+          early = λ before later jitter now e. a .early (extra j n ∷ before) later jitter now (ap (λ (s : List Step). extra j n ∷ s) e);
+          held = λ before later jitter now e. a .held (extra j n ∷ before) later jitter now (ap (λ (s : List Step). extra j n ∷ s) e);
+          order = λ before between later jitter now x e. a .order (extra j n ∷ before) between later jitter now x (ap (λ (s : List Step). extra j n ∷ s) e);
+        }
+
+    -- what they say of an extra waking that comes first
+    first-early : BeforeDeadline w n ⊎ Expired w
+    unfolding after wokenCalls
+    first-early = a .early [] steps j n refl
+
+    first-held : (Expired w → ⊥) → Current r ⊎ (keepalive ≡ 0)
+    unfolding after wokenCalls ranAfter
+    first-held = a .held [] steps j n refl
+
+    first-order : Ordered n steps
+    first-order between later call e = a .order [] between later j n call (ap (λ (s : List Step). extra j n ∷ s) e)
+
+-- an extra waking leaves twins
+module _ (keepalive : ℕ) {latest : ℕ} (p w : World) (steps : List Step) (h : Twins latest p w) (u : undamaged (w .tunnel) ≡ true)
+    (off : keepalive ≡ 0 → w .tunnel .control .timers .«persistent_keepalive» ≡ Off) (jitter now : ℕ)
+    (a : AdmissibleFrom keepalive (ranOf (w .tunnel) (w .store)) w (extra jitter now ∷ steps)) where
+  its-early : w .tunnel .greatest ≤ now → expiredControl (w .tunnel .control) ≡ false → Early (w .tunnel .control) now
+  its-early g f =
+      let alive : Expired w → ⊥ = λ x. (let y = expired-control w u x in let z : _≡_ {A = ℕ} 0 1 = cc in omega arith) in
+      record {
+        waits = ⊎-elim (λ b. before-deadline w now u g b) (λ x. absurd (alive x)) (first-early keepalive _ w steps jitter now a);
+        held = ⊎-elim (λ s. inl s) (λ k. inr (off k)) (first-held keepalive _ w steps jitter now a alive);
+      }
+
+  extra-twins : Twins latest p (step w (timeout jitter now) .world) ⊎ Twins now p (step w (timeout jitter now) .world)
+  unfolding step callTimeout
+  extra-twins =
+      left-twins p w h (badJitter jitter (w .store)) now (handleTimeout (w .tunnel .control) (w .store) jitter now)
+      (λ g. still-turn (w .tunnel .control) (w .store) jitter now (expiredControl (w .tunnel .control)) refl (its-early g))
+
+-- what a creation that is not turned down hands back
+of-good : (t : Bool) (x y : Called) (number : ℕ) → y .answered .answer ≡ No number → choose t x y .answered .answer ≡ Done → choose t x y ≡ x
+unfolding choose
+of-good true x y number n g = refl
+of-good false x y number n g = let z : _≡_ {A = ℕ} 0 1 = cc in absurd (omega arith)
+
+good-made : (c : Creation) → Good c → created c ≡ record { tunnel = made (c .index) (c .keepalive) (c .now); store = zeros 1024 }
+unfolding callNew refused
+good-made c g =
+    ap (λ (x : Called). record { tunnel = x .answered .tunnel; store = x .store }) (of-good _ _ _ (creationNumber (c .store) (c .keepalive) (c .now)) refl g)
+
+made-off : (index keepalive now : ℕ) → keepalive ≡ 0 → made index keepalive now .control .timers .«persistent_keepalive» ≡ Off
+unfolding made newControl newTimers intervalOf choose
+made-off index keepalive now k = rw k refl
+
+made-ran : (c : Creation) → ranNew c ≡ ranOf (made (c .index) (c .keepalive) (c .now)) (zeros 1024)
+unfolding made
+made-ran c = refl
+
+made-twins : (index keepalive now : ℕ) (store : List ℕ)
+    → Twins 0 (record { tunnel = made index keepalive now; store = store }) (record { tunnel = made index keepalive now; store = store })
+made-twins index keepalive now store =
+    record { tunnels = record { control = refl; older = omega arith; bound = λ time l b. b }; store = refl }
+
+-- what is known of both tunnels where such steps begin
+record Ready (keepalive latest : ℕ) (p w : World) (steps : List Step) : Type 0 where
+  twins : Twins latest p w
+  plainly : Sound (p .tunnel)
+  wakingly : Sound (w .tunnel)
+  off : keepalive ≡ 0 → w .tunnel .control .timers .«persistent_keepalive» ≡ Off
+  conditions : AdmissibleFrom keepalive (ranOf (w .tunnel) (w .store)) w steps
+  ordered : Ordered latest steps
+
+module _ {keepalive latest : ℕ} {p w : World} {steps : List Step} where
+  pair : (call : Call) → Ready keepalive latest p w (shared call ∷ steps) → Pair latest (step p call) (step w call)
+  pair call r = calls-alike (r .twins) (r .plainly .holds) (r .wakingly .holds) call (r .ordered [] steps call refl)
+
+  -- ready for the steps after a shared call, and after an extra waking
+  ready-shared : (call : Call) → Ready keepalive latest p w (shared call ∷ steps)
+      → Ready keepalive latest (step p call .world) (step w call .world) steps
+  ready-shared call r =
+      record {
+        twins = pair call r .twins;
+        plainly = sound-step p call (r .plainly);
+        wakingly = sound-step w call (r .wakingly);
+        off = λ k. setting-stays Off w call (r .off k);
+        conditions =
+            subst (λ (x : Ran). AdmissibleFrom keepalive x (step w call .world) steps) (ran-step w call (r .wakingly .holds))
+            (from-shared keepalive _ w steps call (r .conditions));
+        ordered = λ between later x e. r .ordered (shared call ∷ between) later x (ap (λ (s : List Step). shared call ∷ s) e);
+      }
+
+  module _ (jitter now : ℕ) (r : Ready keepalive latest p w (extra jitter now ∷ steps)) where
+    ready-extra : (time : ℕ) → Twins time p (step w (timeout jitter now) .world) → Ordered time steps
+        → Ready keepalive time p (step w (timeout jitter now) .world) steps
+    ready-extra time h o =
+        record {
+          twins = h;
+          plainly = r .plainly;
+          wakingly = sound-step w (timeout jitter now) (r .wakingly);
+          off = λ k. setting-stays Off w (timeout jitter now) (r .off k);
+          conditions =
+              subst (λ (x : Ran). AdmissibleFrom keepalive x (step w (timeout jitter now) .world) steps)
+              (ran-step w (timeout jitter now) (r .wakingly .holds))
+              (from-extra keepalive _ w steps jitter now (r .conditions));
+          ordered = o;
+        }
+
+    after-extra : Ready keepalive latest p (step w (timeout jitter now) .world) steps ⊎ Ready keepalive now p (step w (timeout jitter now) .world) steps
+    after-extra =
+        ⊎-elim
+        (λ h. inl (ready-extra latest h (λ between later x e. r .ordered (extra jitter now ∷ between) later x (ap (λ (s : List Step). extra jitter now ∷ s) e))))
+        (λ h. inr (ready-extra now h (first-order keepalive _ w steps jitter now (r .conditions))))
+        (extra-twins keepalive p w steps (r .twins) (r .wakingly .holds) (r .off) jitter now (r .conditions))
+
+agree : (before later : List Step) (call : Call) (keepalive latest : ℕ) (p w : World) → Ready keepalive latest p w (before ++ shared call ∷ later)
+    → Same (step (after p (plainCalls before)) call) (step (after w (wokenCalls before)) call)
+unfolding after plainCalls wokenCalls
+agree [] later call keepalive latest p w r = pair call r .same
+agree (shared x ∷ before) later call keepalive latest p w r =
+    agree before later call keepalive latest (step p x .world) (step w x .world) (ready-shared x r)
+agree (extra jitter now ∷ before) later call keepalive latest p w r =
+    ⊎-elim (λ y. agree before later call keepalive latest p (step w (timeout jitter now) .world) y)
+    (λ y. agree before later call keepalive now p (step w (timeout jitter now) .world) y) (after-extra jitter now r)
+
+ready-made : (plain woken : Creation) (steps : List Step) → CreatedAlike plain woken → Admissible woken steps
+    → Ready (woken .keepalive) 0 (created plain) (created woken) steps
+ready-made plain woken steps alike a =
+    let p = good-made plain (alike .plainly) in
+    let w = good-made woken (alike .wakingly) in
+    record {
+      twins = rw (p, w, alike .index, alike .keepalive, alike .now) (made-twins (woken .index) (woken .keepalive) (woken .now) (zeros 1024));
+      plainly = sound-created plain;
+      wakingly = sound-created woken;
+      off = rw w (made-off (woken .index) (woken .keepalive) (woken .now));
+      conditions =
+          subst (λ (r : Ran). AdmissibleFrom (woken .keepalive) r (created woken) steps)
+          (made-ran woken ∙ sym (ap (λ (x : World). ranOf (x .tunnel) (x .store)) w))
+          (record { early = a .early; held = a .held; order = a .order });
+      ordered = λ between later call e now t. omega arith;
+    }
+
+pub extra-wakings-law : ExtraWakingsLaw
+extra-wakings-law plain woken steps alike a before later call e =
+    agree before later call (woken .keepalive) 0 (created plain) (created woken)
+    (subst (λ (s : List Step). Ready (woken .keepalive) 0 (created plain) (created woken) s) e (ready-made plain woken steps alike a))

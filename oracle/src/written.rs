@@ -1,0 +1,105 @@
+//! A call's time, and its line as a script has it.
+
+use std::fmt;
+
+use crate::script::{Call, Opening};
+
+impl Call {
+    /// The call's time, if it has one.
+    pub fn time(&self) -> Option<u64> {
+        self.clone().time_mut().copied()
+    }
+
+    /// The same call at another time; one without a time stays as it is.
+    pub fn at(mut self, time: u64) -> Self {
+        if let Some(own) = self.time_mut() {
+            *own = time;
+        }
+
+        self
+    }
+
+    /// The place of the call's time.
+    fn time_mut(&mut self) -> Option<&mut u64> {
+        match self {
+            Call::New { time, .. }
+            | Call::Init { time }
+            | Call::Restart { time }
+            | Call::Resp { time, .. }
+            | Call::Hello { time, .. }
+            | Call::Cookie { time, .. }
+            | Call::Send { time, .. }
+            | Call::Recv { time, .. }
+            | Call::Look { time, .. }
+            | Call::Wake { time, .. } => Some(time),
+            Call::Event | Call::Next | Call::Missing { .. } | Call::Split { .. } => None,
+        }
+    }
+}
+
+impl fmt::Display for Call {
+    fn fmt(&self, f: &mut fmt::Formatter<'_>) -> fmt::Result {
+        match self {
+            Call::New {
+                index,
+                keepalive,
+                time,
+            } => write!(f, "new {index} {keepalive} {time}"),
+            Call::Init { time } => write!(f, "init {time}"),
+            Call::Restart { time } => write!(f, "restart {time}"),
+            Call::Resp {
+                receiver,
+                peer,
+                outcome,
+                time,
+            } => write!(f, "resp {receiver} {peer} {outcome} {time}"),
+            Call::Hello {
+                peer,
+                outcome,
+                time,
+            } => write!(f, "hello {peer} {outcome} {time}"),
+            Call::Cookie {
+                receiver,
+                outcome,
+                time,
+            } => write!(f, "cookie {receiver} {outcome} {time}"),
+            Call::Send { count, time } => write!(f, "send {count} {time}"),
+            Call::Recv {
+                index,
+                session,
+                time,
+                messages,
+            } => {
+                write!(f, "recv {index} {session} {time}")?;
+                messages
+                    .iter()
+                    .try_for_each(|(counter, opening)| write!(f, " {counter} {opening}"))
+            }
+            Call::Look {
+                index,
+                counter,
+                time,
+            } => write!(f, "look {index} {counter} {time}"),
+            Call::Wake { jitter, time } => write!(f, "wake {jitter} {time}"),
+            Call::Event => write!(f, "event"),
+            Call::Next => write!(f, "next"),
+            Call::Missing { index } => write!(f, "missing {index}"),
+            Call::Split {
+                peer,
+                first,
+                length,
+                at,
+            } => write!(f, "split {peer} {first} {length} {at}"),
+        }
+    }
+}
+
+impl fmt::Display for Opening {
+    fn fmt(&self, f: &mut fmt::Formatter<'_>) -> fmt::Result {
+        f.write_str(match self {
+            Opening::Data => "d",
+            Opening::Keepalive => "k",
+            Opening::Failed => "f",
+        })
+    }
+}
