@@ -12,6 +12,7 @@ pub mod Missing
 pub mod Moves
 pub mod Queued
 pub mod Receiving
+pub mod Running
 pub mod Runs
 pub mod Sending
 pub mod Setting
