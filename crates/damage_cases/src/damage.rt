@@ -1,18 +1,18 @@
 // Fields of a tunnel set to a value, and the values at the edge of what number 14 lets through and just beyond it.
 use crate::sound::GREATEST;
+use parts::event::Event;
+use parts::handshake::Cookies;
+use parts::handshake::Handshake;
+use parts::handshake::HandshakeState;
+use parts::ring_buffer::RingBuffer;
+use parts::ring_buffer::Slot;
+use parts::timers::Interval;
+use parts::timers::MAX_JITTER;
+use parts::timers::Timers;
 use sessions::session::REJECT_AFTER_MESSAGES;
 use sessions::session::Session;
 use sessions::session::Time;
 use tunnel::control::Control;
-use tunnel::event::Event;
-use tunnel::handshake::Cookies;
-use tunnel::handshake::Handshake;
-use tunnel::handshake::HandshakeState;
-use tunnel::ring_buffer::RingBuffer;
-use tunnel::ring_buffer::Slot;
-use tunnel::timers::Interval;
-use tunnel::timers::MAX_JITTER;
-use tunnel::timers::Timers;
 use tunnel::tunnel::TIME_LIMIT;
 use tunnel::tunnel::Tunnel;
 

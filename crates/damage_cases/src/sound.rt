@@ -1,13 +1,13 @@
 // The tunnels that the cases start from.
+use parts::event::Event;
+use parts::handshake::Handshake;
+use parts::handshake::HandshakeState;
+use parts::ring_buffer::RingBuffer;
+use parts::ring_buffer::Slot;
+use parts::timers::Timers;
 use sessions::session::Session;
 use sessions::session::Time;
 use tunnel::control::Control;
-use tunnel::event::Event;
-use tunnel::handshake::Handshake;
-use tunnel::handshake::HandshakeState;
-use tunnel::ring_buffer::RingBuffer;
-use tunnel::ring_buffer::Slot;
-use tunnel::timers::Timers;
 use tunnel::tunnel::Tunnel;
 
 // The greatest time of the sound tunnel.

@@ -13,14 +13,15 @@ use Rattle.sessions.specs.Sessions.{caseFound, caseSelected, emptySlots, newSes
 use Rattle.sessions.specs.Store.{putSlot, zeros}
 use Rattle.tunnel.specs.Answer.{numberOf}
 use Rattle.tunnel.specs.Arguments.{intervalOf, openingOutcome, lacking, badOutcome, badJitter, creationNumber}
-use Rattle.tunnel.specs.Check.{timeHolds, stateHolds, inRange, intervalHolds, bothAtMost, eventHolds, slotHolds, slotsHold, queueHolds, eventsHold, handshakeHolds, packetTimersHold, dataTimersHold, fieldsHold, timersHold, storedHolds, controlHolds, undamaged}
+use Rattle.parts.specs.Check.{timeHolds, stateHolds, inRange, intervalHolds, bothAtMost, eventHolds, slotHolds, slotsHold, queueHolds, eventsHold, handshakeHolds, packetTimersHold, dataTimersHold, fieldsHold, timersHold}
+use Rattle.tunnel.specs.Check.{storedHolds, controlHolds, undamaged}
 use Rattle.tunnel.specs.Control.{newControl, refuse, done, expiredControl, queueing, pollEvent}
 use Rattle.tunnel.specs.Deadlines.{scheduledHandshake, earliestExpiry, cookieDeadline, rejectDeadline, attemptDeadline, handshakeRekeyTimeout, rekeyOnSend, rekeyAfterMessages, rekeyOnReceive, responseDeadline, passiveDeadline, persistentDeadline, currentPersistentDeadline, commonDeadline, rekeyDeadline, keepaliveDeadline, unscheduledDeadline, nextDeadline, notBefore, pollTimeout}
-use Rattle.tunnel.specs.Event.{caseEvent}
-use Rattle.tunnel.specs.Handshake.{caseState, caseCompleted, newHandshake, awaits, isInProgress, inFlightInitiation, setExpired, isExpired, cookieExpiration, appendMac1AndMac2, initiateHandshake, expects, receiveHandshakeResponse}
+use Rattle.parts.specs.Event.{caseEvent}
+use Rattle.parts.specs.Handshake.{caseState, caseCompleted, newHandshake, awaits, isInProgress, inFlightInitiation, setExpired, isExpired, cookieExpiration, appendMac1AndMac2, initiateHandshake, expects, receiveHandshakeResponse}
 use Rattle.tunnel.specs.Messages.{confirming, establish, complete, handleHandshakeResponse, initiating, initiate, restartHandshake, startHandshake}
-use Rattle.tunnel.specs.RingBuffer.{placeOf, emptyPlaces, newRing, ringIsEmpty, storeAt, pushBack, popFront, eventsFrom, queued}
-use Rattle.tunnel.specs.Timers.{caseInterval, newTimers, rejectAfterTimeOf, rekeyAttemptDeadline, rekeyAfterTimeWithoutResponse, keepaliveAfterTimeWithoutSend, nextPersistentKeepalive, clearTimers, tickLastHandshakeCompleted, tickLastHandshakeStarted, tickLastPacketReceived, tickLastPacketSent, getOr, tickLastDataPacketSent, tickPersistentKeepalive, rekeyTimeoutOf, scheduleHandshake, cancelScheduledHandshake, consumePassiveKeepalive, tickCompleted, tickInitiation}
+use Rattle.parts.specs.RingBuffer.{placeOf, emptyPlaces, newRing, ringIsEmpty, storeAt, pushBack, popFront, eventsFrom, queued}
+use Rattle.parts.specs.Timers.{caseInterval, newTimers, rejectAfterTimeOf, rekeyAttemptDeadline, rekeyAfterTimeWithoutResponse, keepaliveAfterTimeWithoutSend, nextPersistentKeepalive, clearTimers, tickLastHandshakeCompleted, tickLastHandshakeStarted, tickLastPacketReceived, tickLastPacketSent, getOr, tickLastDataPacketSent, tickPersistentKeepalive, rekeyTimeoutOf, scheduleHandshake, cancelScheduledHandshake, consumePassiveKeepalive, tickCompleted, tickInitiation}
 use Rattle.tunnel.specs.Transport.{caseDatagram, beginEncapsulate, finishEncapsulate, grant, encryptKeepalive, confirmFirstSession}
 use Rattle.tunnel.specs.Tunnel.{made, gate, timelessGate, refused, settled, timed, timeless, kept, timedTurn, callNew, callStart, callSend, callResponse, callTimeout, callEvent, callDeadline}
 use Rattle.tunnel.specs.Waking.{clearAll, expireControl, scheduling, queueKeepalive, persistentKeepalive, keepalives, rekeyDue, wakeIdle, wakeInProgress, expireCookie, wakeLater, wakeRest, isLost, isReplaced, wakeCurrent, wakeSessions, sendScheduled, wake, handleTimeout}
@@ -29,7 +30,7 @@ use Rattle.sessions.specs.declared.session.Time.{Time}
 use Rattle.sessions.specs.declared.session.Time.the-variants.{At}
 use Rattle.tunnel.specs.declared.answer.Answer.{Answer}
 use Rattle.tunnel.specs.declared.answer.Answer.the-variants.{No, Initiation, Polled, Deadline}
-use Rattle.tunnel.specs.declared.event.Event.the-variants.{Empty, SendKeepalive, ConnectionExpired}
+use Rattle.parts.specs.declared.event.Event.the-variants.{Empty, SendKeepalive, ConnectionExpired}
 use Rattle.demands.specs.Calls.{Call, Good, step, after, created}
 use Rattle.demands.specs.Calls.Call.{start, response, timeout, event, deadline}
 use Rattle.demands.specs.Wakings.{Step, shared, extra, plainCalls, wokenCalls, took, ran, ranNew, Expired, timeOf, Alike, Agree, CreatedAlike}

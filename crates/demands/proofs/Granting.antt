@@ -26,7 +26,7 @@ use Rattle.sessions.specs.declared.sessions.Sessions.{Sessions}
 use Rattle.tunnel.proofs.SoundSteps.{known-found, known-reserved, sending-current}
 use Rattle.tunnel.proofs.Steps.{of-choice}
 use Rattle.tunnel.specs.Control.{outcome, done, withSessions, withTimers}
-use Rattle.tunnel.specs.Timers.{tickLastPacketSent}
+use Rattle.parts.specs.Timers.{tickLastPacketSent}
 use Rattle.tunnel.specs.Transport.{beginEncapsulate, finishEncapsulate, grant, send, encrypted, encryptKeepalive}
 use Rattle.tunnel.specs.declared.answer.Answer.the-variants.{No, Granted}
 use Rattle.tunnel.specs.declared.control.Control.{Control}

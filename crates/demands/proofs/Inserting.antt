@@ -22,15 +22,15 @@ use Rattle.tunnel.proofs.Responses.{keepalive-sent, stored, response-current, r
 use Rattle.tunnel.proofs.SoundSteps.{SoundControl}
 use Rattle.tunnel.proofs.Steps.{of-choice}
 use Rattle.tunnel.specs.Control.{Turn, refuse, done, queueing, withSessions}
-use Rattle.tunnel.specs.Handshake.{caseCompleted, receiveHandshakeInitialization, receiveHandshakeResponse}
+use Rattle.parts.specs.Handshake.{caseCompleted, receiveHandshakeInitialization, receiveHandshakeResponse}
 use Rattle.tunnel.specs.Messages.{responding, respond, handleHandshakeInitiation, confirming, complete, handleHandshakeResponse}
 use Rattle.tunnel.specs.Transport.{encryptKeepalive, confirmFirstSession}
 use Rattle.tunnel.specs.declared.answer.Answer.the-variants.{Response, Keepalive}
 use Rattle.tunnel.specs.declared.control.Control.{Control}
 use Rattle.tunnel.specs.declared.control.Out.{Out}
-use Rattle.tunnel.specs.declared.handshake.Completed.{Completed}
-use Rattle.tunnel.specs.declared.handshake.Completed.the-variants.{Failed, Opened}
-use Rattle.tunnel.specs.declared.handshake.Handshake.{Handshake}
+use Rattle.parts.specs.declared.handshake.Completed.{Completed}
+use Rattle.parts.specs.declared.handshake.Completed.the-variants.{Failed, Opened}
+use Rattle.parts.specs.declared.handshake.Handshake.{Handshake}
 use Rattle.tunnel.specs.declared.transport.Datagram.the-variants.{Sent}
 use Rattle.tunnel.specs.declared.transport.Encrypted.{Encrypted}
 

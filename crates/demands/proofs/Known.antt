@@ -18,17 +18,17 @@ use Rattle.sessions.specs.declared.sessions.Missing.{Missing}
 use Rattle.sessions.specs.declared.sessions.Missing.the-variants.{Refused, Count}
 use Rattle.tunnel.proofs.Steps.{of-choice, of-found}
 use Rattle.tunnel.specs.Control.{withHandshake, outcome, refuse, done, queueing, pollEvent, missingReport}
-use Rattle.tunnel.specs.Handshake.{caseCookie}
+use Rattle.parts.specs.Handshake.{caseCookie}
 use Rattle.tunnel.specs.Messages.{initiate, initiating, handleCookieReply, restartHandshake, startHandshake}
 use Rattle.tunnel.specs.Transport.{beginDecapsulate, confirmFirstSession}
 use Rattle.tunnel.specs.declared.answer.Answer.{Answer}
 use Rattle.tunnel.specs.declared.answer.Answer.the-variants.{No, Done, NoAnswer, Initiation, Response, Keepalive, Granted, Polled, Deadline, Report}
 use Rattle.tunnel.specs.declared.control.Control.{Control}
 use Rattle.tunnel.specs.declared.control.Out.{Out}
-use Rattle.tunnel.specs.declared.event.Event.{Event}
-use Rattle.tunnel.specs.declared.event.Event.the-variants.{Established}
-use Rattle.tunnel.specs.declared.handshake.Cookie.{Cookie}
-use Rattle.tunnel.specs.declared.handshake.Cookie.the-variants.{Unusable, Stored}
+use Rattle.parts.specs.declared.event.Event.{Event}
+use Rattle.parts.specs.declared.event.Event.the-variants.{Established}
+use Rattle.parts.specs.declared.handshake.Cookie.{Cookie}
+use Rattle.parts.specs.declared.handshake.Cookie.the-variants.{Unusable, Stored}
 
 -- after n insertions, with these histories, grants and grants of wakings
 pub record Known (n : ℕ) (h : ℕ → List ℕ) (g k : List Grant) (c : Control) (store : List ℕ) : Type 0 where

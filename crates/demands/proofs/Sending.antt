@@ -26,8 +26,8 @@ use Rattle.tunnel.specs.Control.{pollEvent}
 use Rattle.tunnel.specs.Tunnel.{refused, settled, timed, timeless, callSend, callEvent}
 use Rattle.tunnel.specs.declared.answer.Answer.the-variants.{Granted, Polled}
 use Rattle.tunnel.specs.declared.control.Out.{Out}
-use Rattle.tunnel.specs.declared.event.Event.{Event}
-use Rattle.tunnel.specs.declared.event.Event.the-variants.{Empty, SendKeepalive}
+use Rattle.parts.specs.declared.event.Event.{Event}
+use Rattle.parts.specs.declared.event.Event.the-variants.{Empty, SendKeepalive}
 use Rattle.tunnel.specs.declared.tunnel.Answered.{Answered}
 use Rattle.window.specs.Window.{limit}
 

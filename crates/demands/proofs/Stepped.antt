@@ -35,9 +35,9 @@ use Rattle.tunnel.proofs.SoundSteps.{sound-later}
 use Rattle.tunnel.proofs.Steps.{of-choice}
 use Rattle.tunnel.specs.Answer.{numberOf}
 use Rattle.tunnel.specs.Control.{Turn, refuse, done}
-use Rattle.tunnel.specs.Event.{caseEvent}
+use Rattle.parts.specs.Event.{caseEvent}
 use Rattle.tunnel.specs.Arguments.{initiationOutcome, openingOutcome}
-use Rattle.tunnel.specs.RingBuffer.{pushBack}
+use Rattle.parts.specs.RingBuffer.{pushBack}
 use Rattle.tunnel.specs.Sound.{Sound}
 use Rattle.tunnel.specs.Transport.{Batched}
 use Rattle.tunnel.specs.Tunnel.{Called, CalledBatch, gate, refused, settled, timed, timeless, kept, timedTurn, timedBatch, callStart, callRestart, callSend, callReceive, callLook, callInitiation, callResponse, callCookie, callTimeout, callEvent, callDeadline, callMissing}
@@ -46,8 +46,8 @@ use Rattle.tunnel.specs.declared.answer.Answer.{Answer}
 use Rattle.tunnel.specs.declared.answer.Answer.the-variants.{No, Done}
 use Rattle.tunnel.specs.declared.control.Control.{Control}
 use Rattle.tunnel.specs.declared.control.Out.{Out}
-use Rattle.tunnel.specs.declared.event.Event.{Event}
-use Rattle.tunnel.specs.declared.event.Event.the-variants.{Empty, SendKeepalive}
+use Rattle.parts.specs.declared.event.Event.{Event}
+use Rattle.parts.specs.declared.event.Event.the-variants.{Empty, SendKeepalive}
 use Rattle.tunnel.specs.declared.tunnel.Answered.{Answered}
 
 -- what is known after a call

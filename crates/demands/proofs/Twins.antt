@@ -16,7 +16,7 @@ use Rattle.tunnel.specs.Check.{undamaged}
 use Rattle.tunnel.specs.Control.{Turn, expiredControl, pollEvent, missingReport}
 use Rattle.tunnel.specs.Deadlines.{nextDeadline, notBefore, pollTimeout}
 use Rattle.tunnel.specs.Messages.{startHandshake, restartHandshake, handleHandshakeInitiation, handleHandshakeResponse, handleCookieReply}
-use Rattle.tunnel.specs.RingBuffer.{ringIsEmpty}
+use Rattle.parts.specs.RingBuffer.{ringIsEmpty}
 use Rattle.tunnel.specs.Transport as transport
 use Rattle.tunnel.specs.Tunnel.{gate, timelessGate, refused, settled, timed, timeless, kept, timedTurn, timedBatch, callStart, callRestart, callSend, callReceive, callLook, callInitiation, callResponse, callCookie, callTimeout, callEvent, callDeadline, callMissing}
 use Rattle.tunnel.specs.Waking.{handleTimeout}

@@ -23,15 +23,15 @@ use Rattle.sessions.specs.declared.sessions.Found.the-variants.{Got}
 use Rattle.sessions.specs.declared.sessions.Sessions.{Sessions}
 use Rattle.tunnel.proofs.Steps.{of-choice, of-found}
 use Rattle.tunnel.specs.Control.{Inner, withSessions, queueing}
-use Rattle.tunnel.specs.Event.{caseEvent}
+use Rattle.parts.specs.Event.{caseEvent}
 use Rattle.tunnel.specs.Messages.{initiate, initiating}
-use Rattle.tunnel.specs.RingBuffer.{pushBack}
+use Rattle.parts.specs.RingBuffer.{pushBack}
 use Rattle.tunnel.specs.Transport.{caseDatagram, encryptKeepalive}
 use Rattle.tunnel.specs.Waking.{inner, clearAll, expireControl, scheduling, queueKeepalive, persistentKeepalive, keepalives, wakeIdle, wakeInProgress, expireCookie, wakeLater, wakeRest, wakeCurrent, wakeSessions, sendScheduled, wake}
 use Rattle.tunnel.specs.declared.control.Control.{Control}
-use Rattle.tunnel.specs.declared.event.Event.{Event}
-use Rattle.tunnel.specs.declared.event.Event.the-variants.{SendHandshakeInitiation, SendKeepalive, ConnectionExpired}
-use Rattle.tunnel.specs.declared.ring_buffer.RingBuffer.{RingBuffer}
+use Rattle.parts.specs.declared.event.Event.{Event}
+use Rattle.parts.specs.declared.event.Event.the-variants.{SendHandshakeInitiation, SendKeepalive, ConnectionExpired}
+use Rattle.parts.specs.declared.ring_buffer.RingBuffer.{RingBuffer}
 use Rattle.tunnel.specs.declared.transport.Encrypted.{Encrypted}
 
 -- an event that is no grant

@@ -19,9 +19,9 @@ use Rattle.tunnel.specs.Check.{undamaged}
 use Rattle.tunnel.specs.Control.{Inner, Turn, newControl, refuse, done, expiredControl}
 use Rattle.tunnel.specs.Deadlines.{nextDeadline, notBefore, pollTimeout}
 use Rattle.tunnel.specs.Quiet.{Early}
-use Rattle.tunnel.specs.RingBuffer.{ringIsEmpty}
+use Rattle.parts.specs.RingBuffer.{ringIsEmpty}
 use Rattle.tunnel.specs.Sound.{Sound}
-use Rattle.tunnel.specs.Timers.{newTimers}
+use Rattle.parts.specs.Timers.{newTimers}
 use Rattle.tunnel.specs.Transport.{grant, finishEncapsulate}
 use Rattle.tunnel.specs.Transport as transport
 use Rattle.tunnel.specs.Tunnel.{made, gate, refused, settled, timed, kept, timedTurn, Called, callNew, callSend, callTimeout}
@@ -30,7 +30,7 @@ use Rattle.tunnel.specs.declared.answer.Answer.{Answer}
 use Rattle.tunnel.specs.declared.answer.Answer.the-variants.{No, Done, Deadline}
 use Rattle.tunnel.specs.declared.control.Control.{Control}
 use Rattle.tunnel.specs.declared.control.Out.{Out}
-use Rattle.tunnel.specs.declared.timers.Interval.the-variants.{Off}
+use Rattle.parts.specs.declared.timers.Interval.the-variants.{Off}
 use Rattle.tunnel.specs.declared.tunnel.Tunnel.{Tunnel}
 use Rattle.tunnel.proofs.Facts.{undamaged-facts}
 use Rattle.tunnel.proofs.Framed.{open-onward}

@@ -11,11 +11,11 @@ use Rattle.sessions.specs.declared.session.Role.the-variants.{Initiator, Respon
 use Rattle.sessions.specs.Store.{zeros}
 use Rattle.tunnel.specs.Answer.{Word, eventValues, wordOf, valuesOf}
 use Rattle.tunnel.specs.Answer.Word.{turned, bare, none, init, resp, key, est, exp, at}
-use Rattle.tunnel.specs.RingBuffer.{newRing, pushBack, popFront}
+use Rattle.parts.specs.RingBuffer.{newRing, pushBack, popFront}
 use Rattle.tunnel.specs.Tunnel.{callNew, callTimeout, callEvent, callDeadline}
 use Rattle.tunnel.specs.declared.answer.Answer.{Answer}
-use Rattle.tunnel.specs.declared.event.Event.the-variants.{SendHandshakeInitiation}
-use Rattle.tunnel.specs.declared.ring_buffer.RingBuffer.{RingBuffer}
+use Rattle.parts.specs.declared.event.Event.the-variants.{SendHandshakeInitiation}
+use Rattle.parts.specs.declared.ring_buffer.RingBuffer.{RingBuffer}
 use Rattle.tunnel.specs.declared.tunnel.Tunnel.{Tunnel}
 use Rattle.window.specs.Window.{limit, empty, setBit}
 use Rattle.window.specs.History.{Window, verdict, given}

@@ -8,19 +8,8 @@ use Rattle.sessions.specs.Session.{caseTime, earlier}
 use Rattle.sessions.specs.declared.session.Time.{Time}
 use Rattle.sessions.specs.declared.session.Time.the-variants.{Never, At}
 use Rattle.tunnel.specs.Control.{expiredControl}
-use Rattle.tunnel.specs.Deadlines.{
-  scheduledHandshake,
-  attemptDeadline,
-  handshakeRekeyTimeout,
-  commonDeadline,
-  rekeyDeadline,
-  keepaliveDeadline,
-  nextDeadline,
-  unscheduledDeadline,
-  pollTimeout,
-  notBefore,
-}
-use Rattle.tunnel.specs.RingBuffer.{ringIsEmpty}
+use Rattle.tunnel.specs.Deadlines.{scheduledHandshake, attemptDeadline, handshakeRekeyTimeout, commonDeadline, rekeyDeadline, keepaliveDeadline, nextDeadline, unscheduledDeadline, pollTimeout, notBefore}
+use Rattle.parts.specs.RingBuffer.{ringIsEmpty}
 use Rattle.tunnel.specs.declared.control.Control.{Control}
 
 -- the earliest deadline while no handshake is scheduled, without and with an initiation that awaits a response

@@ -18,28 +18,10 @@ use Rattle.tunnel.specs.Control.{Turn, outcome}
 use Rattle.tunnel.specs.Deadlines.{pollTimeout}
 use Rattle.tunnel.specs.Facts.{ControlWithin}
 use Rattle.tunnel.specs.Messages.{handleHandshakeInitiation, handleHandshakeResponse, handleCookieReply}
-use Rattle.tunnel.specs.RingBuffer.{RingWithin}
-use Rattle.tunnel.specs.Timers.{maxJitter, greatestInterval}
+use Rattle.parts.specs.RingBuffer.{RingWithin}
+use Rattle.parts.specs.Timers.{maxJitter, greatestInterval}
 use Rattle.tunnel.specs.Transport.{Batched, Commits}
-use Rattle.tunnel.specs.Tunnel.{
-  answered,
-  made,
-  gate,
-  timelessGate,
-  refused,
-  settled,
-  timed,
-  timeless,
-  kept,
-  timedTurn,
-  timedBatch,
-  LeavesBatch,
-  callNew,
-  callInitiation,
-  callResponse,
-  callCookie,
-  callDeadline,
-}
+use Rattle.tunnel.specs.Tunnel.{answered, made, gate, timelessGate, refused, settled, timed, timeless, kept, timedTurn, timedBatch, LeavesBatch, callNew, callInitiation, callResponse, callCookie, callDeadline}
 use Rattle.tunnel.proofs.Later.{let-through}
 use Rattle.tunnel.specs.declared.answer.Answer.the-variants.{Done, Deadline}
 use Rattle.tunnel.specs.declared.control.Out.{Out}

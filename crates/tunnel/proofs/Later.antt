@@ -19,16 +19,16 @@ use Rattle.sessions.specs.declared.sessions.Selected.{Selected}
 use Rattle.sessions.specs.declared.sessions.Selected.the-variants.{Unset, Index}
 use Rattle.sessions.specs.declared.sessions.Sessions.{Sessions}
 use Rattle.tunnel.specs.declared.control.Control.{Control}
-use Rattle.tunnel.specs.declared.event.Event.{Event}
-use Rattle.tunnel.specs.declared.handshake.HandshakeState.{HandshakeState}
-use Rattle.tunnel.specs.declared.handshake.HandshakeState.the-variants.{None, InitSent, Expired}
-use Rattle.tunnel.specs.declared.handshake.Handshake.{Handshake}
-use Rattle.tunnel.specs.declared.ring_buffer.RingBuffer.{RingBuffer}
-use Rattle.tunnel.specs.declared.timers.Timers.{Timers}
+use Rattle.parts.specs.declared.event.Event.{Event}
+use Rattle.parts.specs.declared.handshake.HandshakeState.{HandshakeState}
+use Rattle.parts.specs.declared.handshake.HandshakeState.the-variants.{None, InitSent, Expired}
+use Rattle.parts.specs.declared.handshake.Handshake.{Handshake}
+use Rattle.parts.specs.declared.ring_buffer.RingBuffer.{RingBuffer}
+use Rattle.parts.specs.declared.timers.Timers.{Timers}
 use Rattle.tunnel.specs.declared.tunnel.Tunnel.{Tunnel}
 use Rattle.tunnel.specs.Check.{undamaged}
-use Rattle.tunnel.specs.Handshake.{caseState, SentWithin, HandshakeWithin, inFlightInitiation}
-use Rattle.tunnel.specs.Timers.{maxJitter, TimeWithin, TimersWithin}
+use Rattle.parts.specs.Handshake.{caseState, SentWithin, HandshakeWithin, inFlightInitiation}
+use Rattle.parts.specs.Timers.{maxJitter, TimeWithin, TimersWithin}
 use Rattle.tunnel.specs.Facts.{SlotWithin, SessionsWithin, EventWithin, EventsWithin, QueueWithin, ControlWithin, Undamaged}
 use Rattle.tunnel.specs.Facts.EventsWithin.{none, more}
 use Rattle.tunnel.proofs.Facts.{undamaged-facts}

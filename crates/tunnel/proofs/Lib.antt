@@ -1,13 +1,11 @@
-pub mod Cases
+pub mod Chains
 pub mod Due
 pub mod Facts
 pub mod Framed
 pub mod Kept
 pub mod Later
-pub mod Loops
 pub mod MessagesWays
 pub mod Opened
-pub mod Queue
 pub mod Quiet
 pub mod Responses
 pub mod SoundCalls
@@ -18,5 +16,4 @@ pub mod Steps
 pub mod Stores
 pub mod TransportWays
 pub mod Wakings
-pub mod Ways
 pub mod Woken

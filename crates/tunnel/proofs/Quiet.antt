@@ -3,12 +3,11 @@
 use mathlib.Core.Path.{_≡_, refl, ap, sym, _∙_}
 use mathlib.Core.Bool.{Bool, true, false}
 use mathlib.Core.List.{List}
-use mathlib.Core.Logic.{_⊎_, inl, inr}
+use mathlib.Core.Logic.{inl, inr}
 use Prim.Native.Nat.{ℕ, zero, suc, _≤_, _<_}
 use native.Mathlib.Omega.{arith}
-use lib.Dec.{ltb, leb, eqb}
-use lib.ListN.{length}
-use borrow.Author.Tests.{ltb-true, ltb-false, leb-true, leb-false, lt-leb}
+use lib.Dec.{ltb, leb}
+use borrow.Author.Tests.{ltb-true, ltb-false, leb-false, lt-leb}
 use Rattle.base.specs.Choice.{choose}
 use Rattle.base.proofs.Choice.{no-flag}
 use Rattle.sessions.specs.Session.{caseTime, dueBy, least, earlier, expiresAt, expiredAt}
@@ -21,50 +20,14 @@ use Rattle.sessions.specs.declared.sessions.Found.{Found}
 use Rattle.sessions.specs.declared.sessions.Found.the-variants.{Nothing, Got}
 use Rattle.sessions.specs.declared.sessions.Sessions.{Sessions}
 use Rattle.tunnel.specs.Check.{undamaged}
-use Rattle.tunnel.specs.Control.{Inner, withHandshake, outcome}
-use Rattle.tunnel.specs.Deadlines.{
-  scheduledHandshake,
-  earliestExpiry,
-  cookieDeadline,
-  rejectDeadline,
-  attemptDeadline,
-  handshakeRekeyTimeout,
-  rekeyOnSend,
-  rekeyAfterMessages,
-  rekeyOnReceive,
-  responseDeadline,
-  passiveDeadline,
-  persistentDeadline,
-  currentPersistentDeadline,
-  commonDeadline,
-  rekeyDeadline,
-  keepaliveDeadline,
-  unscheduledDeadline,
-  nextDeadline,
-  pollTimeout,
-}
-use Rattle.tunnel.specs.Timers.{caseInterval, nextPersistentKeepalive}
+use Rattle.tunnel.specs.Deadlines.{scheduledHandshake, earliestExpiry, cookieDeadline, rejectDeadline, attemptDeadline, handshakeRekeyTimeout, rekeyOnSend, rekeyAfterMessages, rekeyOnReceive, responseDeadline, passiveDeadline, persistentDeadline, currentPersistentDeadline, commonDeadline, rekeyDeadline, keepaliveDeadline, unscheduledDeadline, nextDeadline, pollTimeout}
+use Rattle.parts.specs.Timers.{caseInterval, nextPersistentKeepalive}
 use Rattle.tunnel.specs.Tunnel.{timelessGate, timeless, settled, callDeadline}
-use Rattle.tunnel.specs.Waking.{
-  inner,
-  persistentKeepalive,
-  keepalives,
-  rekeyDue,
-  wakeIdle,
-  wakeInProgress,
-  expireCookie,
-  wakeLater,
-  wakeRest,
-  wakeCurrent,
-  wakeSessions,
-  wake,
-}
-use Rattle.tunnel.specs.declared.answer.Answer.{Answer}
+use Rattle.tunnel.specs.Waking.{inner, persistentKeepalive, keepalives, rekeyDue, wakeIdle, wakeInProgress, expireCookie, wakeLater, wakeRest, wakeCurrent, wakeSessions, wake}
 use Rattle.tunnel.specs.declared.answer.Answer.the-variants.{Deadline}
 use Rattle.tunnel.specs.declared.control.Control.{Control}
-use Rattle.tunnel.specs.declared.control.Out.{Out}
-use Rattle.tunnel.specs.declared.timers.Interval.{Interval}
-use Rattle.tunnel.specs.declared.timers.Interval.the-variants.{Off}
+use Rattle.parts.specs.declared.timers.Interval.{Interval}
+use Rattle.parts.specs.declared.timers.Interval.the-variants.{Off}
 use Rattle.tunnel.specs.declared.tunnel.Tunnel.{Tunnel}
 use Rattle.tunnel.proofs.Steps.{of-choice}
 use Rattle.tunnel.specs.Quiet.{Early, QuietLaw, DeadlineLaw}

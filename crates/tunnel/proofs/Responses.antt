@@ -10,34 +10,8 @@ use lib.ListN.{length}
 use lib.Seq.{getD-set-same}
 use borrow.Author.Tests.{le-leb, lt-leb, le-ltb, eqb-true, eq-eqb}
 use Rattle.base.specs.Choice.{choose}
-use Rattle.sessions.specs.Session.{
-  caseReserved,
-  newSession,
-  withId,
-  withCounter,
-  reserveCounters,
-  expiredAt,
-  shouldUseAt,
-  sendingCounterExhausted,
-  emptySession,
-  rejectAfterTime,
-  keepaliveTimeout,
-}
-use Rattle.sessions.specs.Sessions.{
-  caseFound,
-  caseSelected,
-  inSlotOf,
-  get,
-  put,
-  currentOf,
-  inserting,
-  insert,
-  isIndex,
-  select,
-  setCurrent,
-  usable,
-  sendingSession,
-}
+use Rattle.sessions.specs.Session.{caseReserved, newSession, withId, withCounter, reserveCounters, expiredAt, shouldUseAt, sendingCounterExhausted, emptySession, rejectAfterTime, keepaliveTimeout}
+use Rattle.sessions.specs.Sessions.{caseFound, caseSelected, inSlotOf, get, put, currentOf, inserting, insert, isIndex, select, setCurrent, usable, sendingSession}
 use Rattle.sessions.specs.declared.session.Reserved.{Reserved}
 use Rattle.sessions.specs.declared.session.Reserved.the-variants.{First}
 use Rattle.sessions.specs.declared.session.Role.the-variants.{Initiator}
@@ -52,7 +26,7 @@ use Rattle.tunnel.specs.Messages.{confirming, establish, complete}
 use Rattle.tunnel.specs.Transport.{caseDatagram, encryptKeepalive, confirmFirstSession}
 use Rattle.tunnel.specs.declared.answer.Answer.the-variants.{Keepalive}
 use Rattle.tunnel.specs.declared.control.Control.{Control}
-use Rattle.tunnel.specs.declared.handshake.Handshake.{Handshake}
+use Rattle.parts.specs.declared.handshake.Handshake.{Handshake}
 use Rattle.tunnel.specs.declared.transport.Datagram.{Datagram}
 use Rattle.tunnel.specs.declared.transport.Datagram.the-variants.{Sent}
 use Rattle.tunnel.specs.declared.transport.Encrypted.{Encrypted}

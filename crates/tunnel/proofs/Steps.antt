@@ -8,21 +8,7 @@ use native.Mathlib.Omega.{arith}
 use lib.ListN.{length, getD, set, getD-replicate}
 use Rattle.base.specs.Choice.{choose}
 use Rattle.sessions.specs.Session.{caseReserved, emptySession}
-use Rattle.sessions.specs.Sessions.{
-  caseFound,
-  withSlots,
-  withCurrent,
-  Held,
-  emptySlots,
-  clear,
-  slotAt,
-  emptied,
-  Expiring,
-  discard,
-  expireSlot,
-  expireFirst,
-  expire,
-}
+use Rattle.sessions.specs.Sessions.{caseFound, withSlots, withCurrent, Held, emptySlots, clear, slotAt, emptied, Expiring, discard, expireSlot, expireFirst, expire}
 use Rattle.sessions.specs.Store.{Leaves}
 use Rattle.sessions.specs.declared.session.Reserved.{Reserved}
 use Rattle.sessions.specs.declared.session.Reserved.the-variants.{TooFew, First}
@@ -35,17 +21,17 @@ use Rattle.sessions.specs.declared.sessions.Selected.the-variants.{Unset}
 use Rattle.sessions.specs.declared.sessions.Sessions.{Sessions}
 use Rattle.tunnel.specs.Control.{withHandshake, withSessions, withTimers, queueing}
 use Rattle.tunnel.specs.Facts.{SlotWithin, SessionsWithin, EventWithin, ControlWithin}
-use Rattle.tunnel.specs.Handshake.{HandshakeWithin}
+use Rattle.parts.specs.Handshake.{HandshakeWithin}
 use Rattle.tunnel.specs.Messages.{initiate, initiating}
-use Rattle.tunnel.specs.RingBuffer.{RingWithin}
-use Rattle.tunnel.specs.Timers.{TimersWithin, consumePassiveKeepalive}
+use Rattle.parts.specs.RingBuffer.{RingWithin}
+use Rattle.parts.specs.Timers.{TimersWithin, consumePassiveKeepalive}
 use Rattle.tunnel.specs.Transport.{encryptKeepalive}
 use Rattle.tunnel.specs.Waking.{clearAll, expireCookie}
 use Rattle.tunnel.specs.declared.control.Control.{Control}
-use Rattle.tunnel.specs.declared.event.Event.{Event}
-use Rattle.tunnel.specs.declared.handshake.Handshake.{Handshake}
+use Rattle.parts.specs.declared.event.Event.{Event}
+use Rattle.parts.specs.declared.handshake.Handshake.{Handshake}
 use Rattle.tunnel.specs.declared.messages.Initiated.{Initiated}
-use Rattle.tunnel.specs.declared.timers.Timers.{Timers}
+use Rattle.parts.specs.declared.timers.Timers.{Timers}
 use Rattle.tunnel.specs.declared.transport.Encrypted.{Encrypted}
 use Rattle.tunnel.proofs.Kept.{on-push, on-consume, on-clear-cookie}
 

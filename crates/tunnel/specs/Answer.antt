@@ -16,8 +16,8 @@ use Rattle.tunnel.specs.declared.answer.Answer.the-variants.{
   Deadline,
   Report,
 }
-use Rattle.tunnel.specs.declared.event.Event.{Event}
-use Rattle.tunnel.specs.declared.event.Event.the-variants.{
+use Rattle.parts.specs.declared.event.Event.{Event}
+use Rattle.parts.specs.declared.event.Event.the-variants.{
   Empty,
   SendHandshakeInitiation,
   SendKeepalive,

@@ -7,9 +7,9 @@ use Rattle.base.specs.Choice.{choose}
 use Rattle.sessions.specs.Batch.{fits}
 use Rattle.sessions.specs.Session.{timeLimit}
 use Rattle.sessions.specs.Store.{whole}
-use Rattle.tunnel.specs.Timers.{maxJitter, greatestInterval}
-use Rattle.tunnel.specs.declared.timers.Interval.{Interval}
-use Rattle.tunnel.specs.declared.timers.Interval.the-variants.{Off, Every}
+use Rattle.parts.specs.Timers.{maxJitter, greatestInterval}
+use Rattle.parts.specs.declared.timers.Interval.{Interval}
+use Rattle.parts.specs.declared.timers.Interval.the-variants.{Off, Every}
 
 -- the keepalive interval that a number of seconds stands for: 0 is none
 unfoldable pub intervalOf : ℕ → Interval

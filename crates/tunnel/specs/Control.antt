@@ -7,18 +7,18 @@ use Rattle.sessions.specs.Sessions.{newSessions, caseMissing, missing}
 use Rattle.sessions.specs.declared.session.Time.{Time}
 use Rattle.sessions.specs.declared.session.Time.the-variants.{Never}
 use Rattle.sessions.specs.declared.sessions.Sessions.{Sessions}
-use Rattle.tunnel.specs.Handshake.{newHandshake, isExpired}
-use Rattle.tunnel.specs.RingBuffer.{newRing, pushBack, popFront}
-use Rattle.tunnel.specs.Timers.{newTimers}
+use Rattle.parts.specs.Handshake.{newHandshake, isExpired}
+use Rattle.parts.specs.RingBuffer.{newRing, pushBack, popFront}
+use Rattle.parts.specs.Timers.{newTimers}
 use Rattle.tunnel.specs.declared.answer.Answer.{Answer}
 use Rattle.tunnel.specs.declared.answer.Answer.the-variants.{No, Polled, Report}
 use Rattle.tunnel.specs.declared.control.Control.{Control}
 use Rattle.tunnel.specs.declared.control.Out.{Out}
-use Rattle.tunnel.specs.declared.event.Event.{Event}
-use Rattle.tunnel.specs.declared.handshake.Handshake.{Handshake}
-use Rattle.tunnel.specs.declared.ring_buffer.RingBuffer.{RingBuffer}
-use Rattle.tunnel.specs.declared.timers.Interval.{Interval}
-use Rattle.tunnel.specs.declared.timers.Timers.{Timers}
+use Rattle.parts.specs.declared.event.Event.{Event}
+use Rattle.parts.specs.declared.handshake.Handshake.{Handshake}
+use Rattle.parts.specs.declared.ring_buffer.RingBuffer.{RingBuffer}
+use Rattle.parts.specs.declared.timers.Interval.{Interval}
+use Rattle.parts.specs.declared.timers.Timers.{Timers}
 
 -- a control of six parts
 abbrev pub control : Handshake → Sessions → Timers → RingBuffer → Time → Bool → Control

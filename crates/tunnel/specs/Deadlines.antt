@@ -9,9 +9,9 @@ use Rattle.sessions.specs.Sessions.{caseFound, currentOf, nextExpiry}
 use Rattle.sessions.specs.declared.session.Time.{Time}
 use Rattle.sessions.specs.declared.session.Time.the-variants.{Never, At}
 use Rattle.tunnel.specs.Control.{expiredControl}
-use Rattle.tunnel.specs.Handshake.{cookieExpiration, inFlightInitiation}
-use Rattle.tunnel.specs.RingBuffer.{ringIsEmpty}
-use Rattle.tunnel.specs.Timers.{rejectAfterTimeOf, rekeyAttemptDeadline, rekeyAfterTimeWithoutResponse, keepaliveAfterTimeWithoutSend, nextPersistentKeepalive, rekeyTimeoutOf}
+use Rattle.parts.specs.Handshake.{cookieExpiration, inFlightInitiation}
+use Rattle.parts.specs.RingBuffer.{ringIsEmpty}
+use Rattle.parts.specs.Timers.{rejectAfterTimeOf, rekeyAttemptDeadline, rekeyAfterTimeWithoutResponse, keepaliveAfterTimeWithoutSend, nextPersistentKeepalive, rekeyTimeoutOf}
 use Rattle.tunnel.specs.declared.control.Control.{Control}
 
 -- when the scheduled handshake is due

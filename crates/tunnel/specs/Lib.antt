@@ -3,14 +3,10 @@ pub mod Arguments
 pub mod Check
 pub mod Control
 pub mod Deadlines
-pub mod Event
 pub mod Facts
-pub mod Handshake
 pub mod Messages
 pub mod Quiet
-pub mod RingBuffer
 pub mod Sound
-pub mod Timers
 pub mod Transport
 pub mod Tunnel
 pub mod Waking

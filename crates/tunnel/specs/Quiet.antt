@@ -14,7 +14,7 @@ use Rattle.tunnel.specs.Tunnel.{callDeadline}
 use Rattle.tunnel.specs.Waking.{inner, wake}
 use Rattle.tunnel.specs.declared.answer.Answer.the-variants.{Deadline}
 use Rattle.tunnel.specs.declared.control.Control.{Control}
-use Rattle.tunnel.specs.declared.timers.Interval.the-variants.{Off}
+use Rattle.parts.specs.declared.timers.Interval.the-variants.{Off}
 use Rattle.tunnel.specs.declared.tunnel.Tunnel.{Tunnel}
 
 -- A waking that comes early: the next deadline has not come, and a session is current or no persistent keepalive is set.

@@ -1,5 +1,5 @@
 // What a call answers.
-use crate::event::Event;
+use parts::event::Event;
 use sessions::range::Range;
 use sessions::session::Time;
 

@@ -1,16 +1,16 @@
 // What the Rust's `Tunnel` holds, save `TimeLastUpdate`, and what an operation on it hands back.
 use crate::answer::Answer;
-use crate::event::Event;
-use crate::handshake::Handshake;
-use crate::ring_buffer::RingBuffer;
-use crate::timers::Interval;
-use crate::timers::Timers;
+use parts::event::Event;
+use parts::handshake::Handshake;
+use parts::ring_buffer::RingBuffer;
+use parts::timers::Interval;
+use parts::timers::Timers;
 use sessions::session::Time;
 use sessions::sessions::Missing;
 use sessions::sessions::Sessions;
 ghost use mathlib.Core.Path.{_≡_};
 ghost use Rattle.tunnel.specs.Control.{newControl, refuse, done, expiredControl, queueing, pollEvent, missingReport};
-ghost use Rattle.tunnel.specs.RingBuffer.{RingWithin};
+ghost use Rattle.parts.specs.RingBuffer.{RingWithin};
 
 pub struct Control {
     pub handshake: Handshake,
@@ -72,36 +72,29 @@ impl Control {
     pub(crate) fn is_expired(self) -> bool
         ensures { λ r. ⌜ r ≡ expiredControl self ⌝ }
     {
-        let handshake = self.handshake;
-        handshake.is_expired()
+        self.handshake.is_expired()
     }
 
     // The control with an event queued.
-    pub(crate) fn push_back(self, event: Event) -> Control
+    pub(crate) fn push_back(mut self, event: Event) -> Control
         requires { ⌜ RingWithin (self .events) ⌝ }
         ensures { λ r. ⌜ r ≡ queueing self event ⌝ }
     {
-        let events = self.events;
-        Control {
-            events: events.push_back(event),
-            ..self
-        }
+        self.events = self.events.push_back(event);
+        self
     }
 
     // The oldest queued event.
-    pub(crate) fn poll_event(self) -> Out
+    pub(crate) fn poll_event(mut self) -> Out
         requires { ⌜ RingWithin (self .events) ⌝ }
         ensures { λ r. ⌜ r ≡ pollEvent self ⌝ }
     {
-        let events = self.events;
-        let popped = events.pop_front();
+        let popped = self.events.pop_front();
         let after = popped.events;
         let event = popped.event;
+        self.events = after;
         Out {
-            control: Control {
-                events: after,
-                ..self
-            },
+            control: self,
             answer: Answer::Polled(event),
             raises: false,
             updates: false,
@@ -112,16 +105,17 @@ impl Control {
     pub(crate) fn missing(self, store: &[u64], index: u32) -> Out
         ensures { λ r. ⌜ r ≡ missingReport self (now (store .entry)) index ⌝ }
     {
-        let sessions = self.sessions;
-        let missing = sessions.missing(store, index);
+        let missing = self.sessions.missing(store, index);
         match missing {
-            Missing::Refused(number) => self.refuse(number),
-            Missing::Count(count) => Out {
-                control: self,
-                answer: Answer::Report(count),
-                raises: false,
-                updates: false,
-            },
+            Missing::Refused(number) => return self.refuse(number),
+            Missing::Count(count) => {
+                return Out {
+                    control: self,
+                    answer: Answer::Report(count),
+                    raises: false,
+                    updates: false,
+                };
+            }
         }
     }
 }

@@ -1,6 +1,6 @@
 // The deadlines at which a waking has something to do, and the next of them.
 use crate::control::Control;
-use crate::timers::rekey_timeout;
+use parts::timers::rekey_timeout;
 use sessions::session::Time;
 use sessions::session::earlier;
 use sessions::sessions::Found;
@@ -45,8 +45,7 @@ impl Control {
         requires { ⌜ ControlWithin self timeLimit ⌝ }
         ensures { λ r. ⌜ r ≡ earliestExpiry self ⌝ }
     {
-        let sessions = self.sessions;
-        sessions.next_expiry()
+        self.sessions.next_expiry()
     }
 
     // When the stored cookie expires.
@@ -54,8 +53,7 @@ impl Control {
         requires { ⌜ ControlWithin self timeLimit ⌝ }
         ensures { λ r. ⌜ r ≡ cookieDeadline self ⌝ }
     {
-        let handshake = self.handshake;
-        handshake.cookie_expiration()
+        self.handshake.cookie_expiration()
     }
 
     // When the connection expires for want of a handshake.
@@ -63,8 +61,7 @@ impl Control {
         requires { ⌜ ControlWithin self timeLimit ⌝ }
         ensures { λ r. ⌜ r ≡ rejectDeadline self ⌝ }
     {
-        let timers = self.timers;
-        timers.reject_after_time()
+        self.timers.reject_after_time()
     }
 
     // When unanswered handshake attempts are given up.
@@ -72,8 +69,7 @@ impl Control {
         requires { ⌜ ControlWithin self timeLimit ⌝ }
         ensures { λ r. ⌜ r ≡ attemptDeadline self ⌝ }
     {
-        let timers = self.timers;
-        timers.rekey_attempt_deadline()
+        self.timers.rekey_attempt_deadline()
     }
 
     // The retry deadline of the initiation that awaits a response.
@@ -81,8 +77,7 @@ impl Control {
         requires { ⌜ ControlWithin self timeLimit ⌝ }
         ensures { λ r. ⌜ r ≡ handshakeRekeyTimeout self ⌝ }
     {
-        let handshake = self.handshake;
-        rekey_timeout(handshake.in_flight_initiation())
+        rekey_timeout(self.handshake.in_flight_initiation())
     }
 
     // The rekey deadline of a current session that has sent data.
@@ -90,8 +85,7 @@ impl Control {
         requires { ⌜ ControlWithin self timeLimit ⌝ }
         ensures { λ r. ⌜ r ≡ rekeyOnSend self ⌝ }
     {
-        let sessions = self.sessions;
-        let Found::Got(session) = sessions.current() else {
+        let Found::Got(session) = self.sessions.current() else {
             return Time::Never;
         };
         session.rekey_after_time_on_send()
@@ -101,13 +95,11 @@ impl Control {
     pub(crate) fn rekey_after_messages(self) -> Time
         ensures { λ r. ⌜ r ≡ rekeyAfterMessages self ⌝ }
     {
-        let sessions = self.sessions;
-        let Found::Got(session) = sessions.current() else {
+        let Found::Got(session) = self.sessions.current() else {
             return Time::Never;
         };
         if session.rekey_after_messages_reached() {
-            let timers = self.timers;
-            return Time::At(timers.time_last_packet_sent);
+            return Time::At(self.timers.time_last_packet_sent);
         }
         Time::Never
     }
@@ -117,8 +109,7 @@ impl Control {
         requires { ⌜ ControlWithin self timeLimit ⌝ }
         ensures { λ r. ⌜ r ≡ rekeyOnReceive self ⌝ }
     {
-        let sessions = self.sessions;
-        let Found::Got(session) = sessions.current() else {
+        let Found::Got(session) = self.sessions.current() else {
             return Time::Never;
         };
         session.reject_after_time_on_receive()
@@ -129,8 +120,7 @@ impl Control {
         requires { ⌜ ControlWithin self timeLimit ⌝ }
         ensures { λ r. ⌜ r ≡ responseDeadline self ⌝ }
     {
-        let timers = self.timers;
-        timers.rekey_after_time_without_response()
+        self.timers.rekey_after_time_without_response()
     }
 
     // The passive-keepalive deadline for data received without a reply.
@@ -138,8 +128,7 @@ impl Control {
         requires { ⌜ ControlWithin self timeLimit ⌝ }
         ensures { λ r. ⌜ r ≡ passiveDeadline self ⌝ }
     {
-        let timers = self.timers;
-        timers.keepalive_after_time_without_send()
+        self.timers.keepalive_after_time_without_send()
     }
 
     // The persistent-keepalive deadline, with or without a session.
@@ -147,8 +136,7 @@ impl Control {
         requires { ⌜ ControlWithin self timeLimit ⌝ }
         ensures { λ r. ⌜ r ≡ persistentDeadline self ⌝ }
     {
-        let timers = self.timers;
-        timers.next_persistent_keepalive()
+        self.timers.next_persistent_keepalive()
     }
 
     // The persistent-keepalive deadline while a session is current.
@@ -156,8 +144,7 @@ impl Control {
         requires { ⌜ ControlWithin self timeLimit ⌝ }
         ensures { λ r. ⌜ r ≡ currentPersistentDeadline self ⌝ }
     {
-        let sessions = self.sessions;
-        let Found::Got(_) = sessions.current() else {
+        let Found::Got(_) = self.sessions.current() else {
             return Time::Never;
         };
         self.next_persistent_keepalive()
@@ -235,8 +222,7 @@ impl Control {
         if self.is_expired() {
             return Time::Never;
         }
-        let events = self.events;
-        if events.is_empty() {
+        if self.events.is_empty() {
             return not_before(self.next_deadline(), last_update);
         }
         Time::At(last_update)

@@ -2,18 +2,18 @@
 use crate::answer::Answer;
 use crate::control::Control;
 use crate::control::Out;
-use crate::handshake::Completed;
-use crate::handshake::Cookie;
-use crate::handshake::Handshake;
-use crate::timers::get_or;
 use crate::transport::Datagram;
+use parts::handshake::Completed;
+use parts::handshake::Cookie;
+use parts::handshake::Handshake;
+use parts::timers::get_or;
 use sessions::session::Session;
 use sessions::session::Time;
 ghost use mathlib.Core.Path.{_≡_};
 ghost use Rattle.sessions.specs.Sessions.{insert};
 ghost use Rattle.sessions.specs.Store.{Leaves};
 ghost use Rattle.tunnel.specs.Messages.{responding, respond, handleHandshakeInitiation, confirming, establish, complete, handleHandshakeResponse, handleCookieReply, initiate, restartHandshake, startHandshake};
-ghost use Rattle.tunnel.specs.RingBuffer.{RingWithin};
+ghost use Rattle.parts.specs.RingBuffer.{RingWithin};
 
 // The control after an initiation was sent, and its local index.
 pub struct Initiated {
@@ -24,7 +24,7 @@ pub struct Initiated {
 impl Control {
     // Stores the session of an initiation that is answered.
     fn responded(
-        self,
+        mut self,
         handshake: Handshake,
         store: &mut [u64],
         session: Session,
@@ -32,35 +32,37 @@ impl Control {
     ) -> Control
         ensures { λ r. ⌜ Leaves r (responding self handshake (store .entry .now) session now) (store .exit .now) (insert (self .sessions) (store .entry .now) session .store) ⌝ }
     {
-        let sessions = self.sessions;
-        let timers = self.timers;
-        let inserted = sessions.insert(store, session);
-        Control {
-            handshake,
-            sessions: inserted,
-            timers: timers.tick_response(now),
-            ..self
-        }
+        self.handshake = handshake;
+        self.sessions = self.sessions.insert(store, session);
+        self.timers = self.timers.tick_response(now);
+        self
     }
 
     // Answers a handshake initiation with a local index already allocated.
-    fn respond(self, store: &mut [u64], local_index: u32, peer: u32, outcome: u8, now: u64) -> Out
+    fn respond(
+        mut self,
+        store: &mut [u64],
+        local_index: u32,
+        peer: u32,
+        outcome: u8,
+        now: u64,
+    ) -> Out
         ensures { λ r. ⌜ Leaves r (respond self (store .entry .now) «local_index» peer outcome now .out) (store .exit .now) (respond self (store .entry .now) «local_index» peer outcome now .store) ⌝ }
     {
-        let handshake = self.handshake;
-        let completed = handshake.receive_handshake_initialization(local_index, peer, outcome, now);
+        let completed = self.handshake
+            .receive_handshake_initialization(local_index, peer, outcome, now);
         match completed {
-            Completed::Failed(number) => self.refuse(number),
+            Completed::Failed(number) => return self.refuse(number),
             Completed::Opened(answered, session) => {
-                let control = self.responded(answered, store, session, now);
-                control.done(Answer::Response(local_index, peer))
+                self = self.responded(answered, store, session, now);
+                return self.done(Answer::Response(local_index, peer));
             }
         }
     }
 
     // Answers a handshake initiation. Its local index is used up even where it is turned down.
     pub(crate) fn handle_handshake_initiation(
-        self,
+        mut self,
         store: &mut [u64],
         peer: u32,
         outcome: u8,
@@ -71,50 +73,42 @@ impl Control {
         if self.is_expired() {
             return self.refuse(11);
         }
-        let sessions = self.sessions;
-        let allocated = sessions.next_index();
+        let allocated = self.sessions.next_index();
         let after = allocated.sessions;
-        let control = Control {
-            sessions: after,
-            ..self
-        };
-        control.respond(store, allocated.index, peer, outcome, now)
+        self.sessions = after;
+        self.respond(store, allocated.index, peer, outcome, now)
     }
 
     // Makes the session of a completed handshake the current one and confirms it.
-    fn confirm(self, local_index: u32, now: u64) -> Control
+    fn confirm(mut self, local_index: u32, now: u64) -> Control
         requires { ⌜ RingWithin (self .events) ⌝ }
         ensures { λ r. ⌜ r ≡ confirming self «local_index» now ⌝ }
     {
-        let sessions = self.sessions;
-        let timers = self.timers;
         let first = self.first_initiation_at;
-        let selected = Control {
-            timers: timers.tick_completed(now),
-            sessions: sessions.set_current(local_index),
-            ..self
-        };
-        selected.confirm_first_session(get_or(first, now), now)
+        self.timers = self.timers.tick_completed(now);
+        self.sessions = self.sessions.set_current(local_index);
+        self.confirm_first_session(get_or(first, now), now)
     }
 
     // Takes the keepalive that confirms a session to the responder.
-    fn establish(self, local_index: u32, now: u64) -> Out
+    fn establish(mut self, local_index: u32, now: u64) -> Out
         requires { ⌜ RingWithin (self .events) ⌝ }
         ensures { λ r. ⌜ r ≡ establish self «local_index» now ⌝ }
     {
-        let confirmed = self.confirm(local_index, now);
-        let encrypted = confirmed.encrypt_keepalive(now);
-        let control = encrypted.control;
+        self = self.confirm(local_index, now);
+        let encrypted = self.encrypt_keepalive(now);
         let keepalive = encrypted.keepalive;
         match keepalive {
-            Datagram::Skipped => control.refuse(12),
-            Datagram::Sent(peer, counter) => control.done(Answer::Keepalive(peer, counter)),
+            Datagram::Skipped => return encrypted.control.refuse(12),
+            Datagram::Sent(peer, counter) => {
+                return encrypted.control.done(Answer::Keepalive(peer, counter));
+            }
         }
     }
 
     // Stores the session of a handshake that is completed and confirms it.
     fn complete(
-        self,
+        mut self,
         ended: Handshake,
         store: &mut [u64],
         session: Session,
@@ -124,14 +118,9 @@ impl Control {
         requires { ⌜ RingWithin (self .events) ⌝ }
         ensures { λ r. ⌜ Leaves r (complete self ended (store .entry .now) session receiver now) (store .exit .now) (insert (self .sessions) (store .entry .now) session .store) ⌝ }
     {
-        let sessions = self.sessions;
-        let inserted = sessions.insert(store, session);
-        let control = Control {
-            handshake: ended,
-            sessions: inserted,
-            ..self
-        };
-        control.establish(receiver, now)
+        self.handshake = ended;
+        self.sessions = self.sessions.insert(store, session);
+        self.establish(receiver, now)
     }
 
     // Completes a handshake that this tunnel initiated.
@@ -149,33 +138,29 @@ impl Control {
         if self.is_expired() {
             return self.refuse(11);
         }
-        let handshake = self.handshake;
-        let completed = handshake.receive_handshake_response(receiver, peer, outcome, now);
+        let completed = self.handshake
+            .receive_handshake_response(receiver, peer, outcome, now);
         match completed {
-            Completed::Failed(number) => self.refuse(number),
+            Completed::Failed(number) => return self.refuse(number),
             Completed::Opened(ended, session) => {
-                self.complete(ended, store, session, receiver, now)
+                return self.complete(ended, store, session, receiver, now);
             }
         }
     }
 
     // Stores the cookie from a reply to a handshake message of this tunnel.
-    pub(crate) fn handle_cookie_reply(self, receiver: u32, outcome: u8, now: u64) -> Out
+    pub(crate) fn handle_cookie_reply(mut self, receiver: u32, outcome: u8, now: u64) -> Out
         ensures { λ r. ⌜ r ≡ handleCookieReply self receiver outcome now ⌝ }
     {
         if self.is_expired() {
             return self.refuse(11);
         }
-        let handshake = self.handshake;
-        let cookie = handshake.receive_cookie_reply(receiver, outcome, now);
+        let cookie = self.handshake.receive_cookie_reply(receiver, outcome, now);
         match cookie {
-            Cookie::Unusable(number) => self.refuse(number),
+            Cookie::Unusable(number) => return self.refuse(number),
             Cookie::Stored(stored) => {
-                let control = Control {
-                    handshake: stored,
-                    ..self
-                };
-                control.done(Answer::Done)
+                self.handshake = stored;
+                return self.done(Answer::Done);
             }
         }
     }
@@ -184,17 +169,15 @@ impl Control {
     pub(crate) fn initiate(self, now: u64) -> Initiated
         ensures { λ r. ⌜ r ≡ initiate self now ⌝ }
     {
-        let handshake = self.handshake;
-        let sessions = self.sessions;
-        let timers = self.timers;
         let first = self.first_initiation_at;
-        let allocated = sessions.next_index();
+        let allocated = self.sessions.next_index();
         let after = allocated.sessions;
         Initiated {
             control: Control {
-                handshake: handshake.initiate_handshake(allocated.index, now),
+                handshake: self.handshake.initiate_handshake(allocated.index, now),
                 sessions: after,
-                timers: timers.tick_initiation(handshake.is_in_progress(), now),
+                timers: self.timers
+                    .tick_initiation(self.handshake.is_in_progress(), now),
                 first_initiation_at: Time::At(get_or(first, now)),
                 ..self
             },
@@ -210,16 +193,16 @@ impl Control {
             return self.done(Answer::NoAnswer);
         }
         let initiated = self.initiate(now);
-        let control = initiated.control;
-        control.done(Answer::Initiation(initiated.local_index))
+        initiated
+            .control
+            .done(Answer::Initiation(initiated.local_index))
     }
 
     // Starts a handshake with the peer, unless one is in progress.
     pub(crate) fn initiate_handshake(self, now: u64) -> Out
         ensures { λ r. ⌜ r ≡ startHandshake self now ⌝ }
     {
-        let handshake = self.handshake;
-        if handshake.is_in_progress() {
+        if self.handshake.is_in_progress() {
             return self.done(Answer::NoAnswer);
         }
         self.restart_handshake(now)

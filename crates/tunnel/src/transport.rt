@@ -2,7 +2,7 @@
 use crate::answer::Answer;
 use crate::control::Control;
 use crate::control::Out;
-use crate::event::Event;
+use parts::event::Event;
 use sessions::batch::Received;
 use sessions::range::Range;
 use sessions::session::Reserved;
@@ -10,7 +10,7 @@ use sessions::session::Session;
 use sessions::sessions::Found;
 ghost use mathlib.Core.Path.{_≡_};
 ghost use Rattle.sessions.specs.Batch.{receive};
-ghost use Rattle.tunnel.specs.RingBuffer.{RingWithin};
+ghost use Rattle.parts.specs.RingBuffer.{RingWithin};
 ghost use Rattle.tunnel.specs.Transport.{beginEncapsulate, finishEncapsulate, grant, send, encryptKeepalive, confirmFirstSession, selecting, accept, batched, committed, committing, Commits, commitDecapsulate, beginDecapsulate};
 
 // A keepalive: its peer index and counter, or none for want of a session.
@@ -27,21 +27,17 @@ pub struct Encrypted {
 
 impl Control {
     // Ticks both send timers and puts the session back.
-    fn begin_encapsulate(self, session: Session, now: u64) -> Control
+    fn begin_encapsulate(mut self, session: Session, now: u64) -> Control
         ensures { λ r. ⌜ r ≡ beginEncapsulate self session now ⌝ }
     {
-        let timers = self.timers;
-        let sessions = self.sessions;
-        let sent = timers.tick_last_packet_sent(now);
-        Control {
-            timers: sent.tick_last_data_packet_sent(now),
-            sessions: sessions.put(session),
-            ..self
-        }
+        self.timers = self.timers.tick_last_packet_sent(now);
+        self.timers = self.timers.tick_last_data_packet_sent(now);
+        self.sessions = self.sessions.put(session);
+        self
     }
 
     // Reserves the counters of data messages.
-    fn finish(self, session: Session, count: u64) -> Out
+    fn finish(mut self, session: Session, count: u64) -> Out
         ensures { λ r. ⌜ r ≡ finishEncapsulate self session count ⌝ }
     {
         let Reserved::First(first, counted) = session.reserve_counters(count) else {
@@ -52,12 +48,8 @@ impl Control {
                 updates: false,
             };
         };
-        let sessions = self.sessions;
-        let control = Control {
-            sessions: sessions.put(counted),
-            ..self
-        };
-        control.done(Answer::Granted(Range {
+        self.sessions = self.sessions.put(counted);
+        self.done(Answer::Granted(Range {
             peer: counted.sending_index,
             first,
             length: count,
@@ -65,12 +57,12 @@ impl Control {
     }
 
     // Grants consecutive counters of a session to data messages.
-    fn grant(self, session: Session, count: u64, now: u64) -> Out
+    fn grant(mut self, session: Session, count: u64, now: u64) -> Out
         ensures { λ r. ⌜ r ≡ grant self session count now ⌝ }
     {
         let prepared = session.prepare_packet_data();
-        let control = self.begin_encapsulate(prepared, now);
-        control.finish(prepared, count)
+        self = self.begin_encapsulate(prepared, now);
+        self.finish(prepared, count)
     }
 
     // Grants consecutive counters of the current sending session to data messages.
@@ -80,19 +72,17 @@ impl Control {
         if self.is_expired() {
             return self.refuse(11);
         }
-        let sessions = self.sessions;
-        let Found::Got(session) = sessions.sending_session(now) else {
+        let Found::Got(session) = self.sessions.sending_session(now) else {
             return self.refuse(12);
         };
         self.grant(session, count, now)
     }
 
     // Takes a counter of the current sending session for a keepalive.
-    pub(crate) fn encrypt_keepalive(self, now: u64) -> Encrypted
+    pub(crate) fn encrypt_keepalive(mut self, now: u64) -> Encrypted
         ensures { λ r. ⌜ r ≡ encryptKeepalive self now ⌝ }
     {
-        let sessions = self.sessions;
-        let Found::Got(session) = sessions.sending_session(now) else {
+        let Found::Got(session) = self.sessions.sending_session(now) else {
             return Encrypted {
                 control: self,
                 keepalive: Datagram::Skipped,
@@ -104,89 +94,73 @@ impl Control {
                 keepalive: Datagram::Skipped,
             };
         };
-        let timers = self.timers;
+        self.sessions = self.sessions.put(counted);
+        self.timers = self.timers.tick_last_packet_sent(now);
         Encrypted {
-            control: Control {
-                sessions: sessions.put(counted),
-                timers: timers.tick_last_packet_sent(now),
-                ..self
-            },
+            control: self,
             keepalive: Datagram::Sent(counted.sending_index, counter),
         }
     }
 
     // Queues the event of the first session's confirmation.
-    pub(crate) fn confirm_first_session(self, started_at: u64, now: u64) -> Control
+    pub(crate) fn confirm_first_session(mut self, started_at: u64, now: u64) -> Control
         requires { ⌜ RingWithin (self .events) ⌝ }
         ensures { λ r. ⌜ r ≡ confirmFirstSession self «started_at» now ⌝ }
     {
         if self.established {
             return self;
         }
-        let control = self.push_back(Event::Established(started_at, now));
-        Control {
-            established: true,
-            ..control
-        }
+        self = self.push_back(Event::Established(started_at, now));
+        self.established = true;
+        self
     }
 
     // Selects the session of an accepted message and confirms the first one.
-    fn select(self, index: u32, accepted_at: u64, now: u64) -> Control
+    fn select(mut self, index: u32, accepted_at: u64, now: u64) -> Control
         requires { ⌜ RingWithin (self .events) ⌝ }
         ensures { λ r. ⌜ r ≡ selecting self index «accepted_at» now ⌝ }
     {
-        let sessions = self.sessions;
-        let timers = self.timers;
-        let selected = Control {
-            sessions: sessions.set_current(index),
-            timers: timers.tick_last_packet_received(now),
-            ..self
-        };
-        selected.confirm_first_session(accepted_at, now)
+        self.sessions = self.sessions.set_current(index);
+        self.timers = self.timers.tick_last_packet_received(now);
+        self.confirm_first_session(accepted_at, now)
     }
 
     // Notes that messages of a session were accepted.
-    fn accept(self, index: u32, accepted_at: u64, data: bool, now: u64) -> Control
+    fn accept(mut self, index: u32, accepted_at: u64, data: bool, now: u64) -> Control
         requires { ⌜ RingWithin (self .events) ⌝ }
         ensures { λ r. ⌜ r ≡ accept self index «accepted_at» «data» now ⌝ }
     {
-        let control = self.select(index, accepted_at, now);
+        self = self.select(index, accepted_at, now);
         if data {
-            let ticked = control.timers;
-            return Control {
-                timers: ticked.tick_last_data_packet_received(now),
-                ..control
-            };
+            self.timers = self.timers.tick_last_data_packet_received(now);
+            return self;
         }
-        control
+        self
     }
 
     // The control after a batch that was not turned down.
-    fn batched(self, received: Received, index: u32, now: u64) -> Control
+    fn batched(mut self, received: Received, index: u32, now: u64) -> Control
         requires { ⌜ RingWithin (self .events) ⌝ }
         ensures { λ r. ⌜ r ≡ batched self received index now ⌝ }
     {
         let after = received.sessions;
-        let control = Control {
-            sessions: after,
-            ..self
-        };
+        self.sessions = after;
         if received.accepted {
-            return control.accept(index, received.established_at, received.data, now);
+            return self.accept(index, received.established_at, received.data, now);
         }
-        control
+        self
     }
 
     // What a batch answers once the sessions have judged it.
-    fn committed(self, received: Received, index: u32, now: u64) -> Out
+    fn committed(mut self, received: Received, index: u32, now: u64) -> Out
         requires { ⌜ RingWithin (self .events) ⌝ }
         ensures { λ r. ⌜ r ≡ committed self received index now ⌝ }
     {
         if received.number != 0 {
             return self.refuse(received.number);
         }
-        let control = self.batched(received, index, now);
-        control.done(Answer::Done)
+        self = self.batched(received, index, now);
+        self.done(Answer::Done)
     }
 
     // Has the sessions judge a batch.
@@ -203,8 +177,8 @@ impl Control {
         requires { ⌜ RingWithin (self .events) ⌝ }
         ensures { λ r. ⌜ Commits (committing self (receive (self .sessions) (store .entry .now) index id now (counters .entry .now) (kinds .entry .now) (verdicts .entry .now)) index now) r (store .exit .now) (verdicts .exit .now) ⌝ }
     {
-        let sessions = self.sessions;
-        let received = sessions.receive(store, index, id, now, counters, kinds, verdicts);
+        let received = self.sessions
+            .receive(store, index, id, now, counters, kinds, verdicts);
         self.committed(received, index, now)
     }
 
@@ -235,8 +209,7 @@ impl Control {
         if self.is_expired() {
             return self.refuse(11);
         }
-        let sessions = self.sessions;
-        let Found::Got(session) = sessions.in_slot_of(index) else {
+        let Found::Got(session) = self.sessions.in_slot_of(index) else {
             return self.refuse(12);
         };
         if session.expired_at(now) {

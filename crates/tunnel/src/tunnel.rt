@@ -99,17 +99,16 @@ impl Tunnel {
     }
 
     // A call that the checks let through.
-    fn settled(self, now: u64, out: Out) -> Answered
+    fn settled(mut self, now: u64, out: Out) -> Answered
         ensures { λ r. ⌜ r ≡ settled self now out ⌝ }
     {
         let control = out.control;
         let answer = out.answer;
+        self.control = control;
+        self.last_update = set_if(out.updates, now, self.last_update);
+        self.greatest = set_if(out.raises, now, self.greatest);
         Answered {
-            tunnel: Tunnel {
-                control,
-                last_update: set_if(out.updates, now, self.last_update),
-                greatest: set_if(out.raises, now, self.greatest),
-            },
+            tunnel: self,
             answer,
         }
     }
@@ -138,8 +137,7 @@ impl Tunnel {
         if number != 0 {
             return self.refused(number);
         }
-        let control = self.control;
-        self.settled(now, control.initiate_handshake(now))
+        self.settled(now, self.control.initiate_handshake(now))
     }
 
     // Starts a new handshake, replacing one in progress: answers its local index, or nothing where the tunnel is expired.
@@ -150,8 +148,7 @@ impl Tunnel {
         if number != 0 {
             return self.refused(number);
         }
-        let control = self.control;
-        self.settled(now, control.restart_handshake(now))
+        self.settled(now, self.control.restart_handshake(now))
     }
 
     // Grants a range of counters.
@@ -162,8 +159,7 @@ impl Tunnel {
         if number != 0 {
             return self.refused(number);
         }
-        let control = self.control;
-        self.settled(now, control.send(count, now))
+        self.settled(now, self.control.send(count, now))
     }
 
     // Commits a batch to the session with this local index and session id, and fills in the verdicts.
@@ -184,8 +180,8 @@ impl Tunnel {
         if number != 0 {
             return self.refused(number);
         }
-        let control = self.control;
-        let out = control.commit_decapsulate(store, index, id, now, counters, kinds, verdicts);
+        let out = self.control
+            .commit_decapsulate(store, index, id, now, counters, kinds, verdicts);
         self.settled(now, out)
     }
 
@@ -197,8 +193,10 @@ impl Tunnel {
         if number != 0 {
             return self.refused(number);
         }
-        let control = self.control;
-        self.settled(now, control.begin_decapsulate(store, index, counter, now))
+        self.settled(
+            now,
+            self.control.begin_decapsulate(store, index, counter, now),
+        )
     }
 
     // Answers an incoming initiation with its new local index and the peer's.
@@ -217,8 +215,8 @@ impl Tunnel {
         if number != 0 {
             return self.refused(number);
         }
-        let control = self.control;
-        let out = control.handle_handshake_initiation(store, peer, found, now);
+        let out = self.control
+            .handle_handshake_initiation(store, peer, found, now);
         self.settled(now, out)
     }
 
@@ -239,8 +237,8 @@ impl Tunnel {
         if number != 0 {
             return self.refused(number);
         }
-        let control = self.control;
-        let out = control.handle_handshake_response(store, receiver, peer, found, now);
+        let out = self.control
+            .handle_handshake_response(store, receiver, peer, found, now);
         self.settled(now, out)
     }
 
@@ -253,8 +251,7 @@ impl Tunnel {
         if number != 0 {
             return self.refused(number);
         }
-        let control = self.control;
-        self.settled(now, control.handle_cookie_reply(receiver, found, now))
+        self.settled(now, self.control.handle_cookie_reply(receiver, found, now))
     }
 
     // Wakes the tunnel: advances its timers and queues due events.
@@ -266,8 +263,7 @@ impl Tunnel {
         if number != 0 {
             return self.refused(number);
         }
-        let control = self.control;
-        let out = control.handle_timeout(store, jitter, now);
+        let out = self.control.handle_timeout(store, jitter, now);
         self.settled(now, out)
     }
 
@@ -279,8 +275,7 @@ impl Tunnel {
         if number != 0 {
             return self.refused(number);
         }
-        let control = self.control;
-        self.settled(0, control.poll_event())
+        self.settled(0, self.control.poll_event())
     }
 
     // Answers the next deadline for waking the tunnel.
@@ -291,10 +286,9 @@ impl Tunnel {
         if number != 0 {
             return self.refused(number);
         }
-        let control = self.control;
         Answered {
             tunnel: self,
-            answer: Answer::Deadline(control.poll_timeout(self.last_update)),
+            answer: Answer::Deadline(self.control.poll_timeout(self.last_update)),
         }
     }
 
@@ -306,7 +300,6 @@ impl Tunnel {
         if number != 0 {
             return self.refused(number);
         }
-        let control = self.control;
-        self.settled(0, control.missing(store, index))
+        self.settled(0, self.control.missing(store, index))
     }
 }

@@ -2,8 +2,8 @@
 use crate::answer::Answer;
 use crate::control::Control;
 use crate::control::Out;
-use crate::event::Event;
 use crate::transport::Datagram;
+use parts::event::Event;
 use sessions::session::Role;
 use sessions::session::Session;
 use sessions::session::Time;
@@ -13,50 +13,38 @@ ghost use mathlib.Core.Path.{_≡_};
 ghost use Prim.Native.Nat.{_≤_};
 ghost use Rattle.sessions.specs.Session.{timeLimit};
 ghost use Rattle.sessions.specs.Store.{Leaves};
-ghost use Rattle.tunnel.specs.RingBuffer.{RingWithin};
-ghost use Rattle.tunnel.specs.Timers.{maxJitter};
+ghost use Rattle.parts.specs.RingBuffer.{RingWithin};
+ghost use Rattle.parts.specs.Timers.{maxJitter};
 ghost use Rattle.tunnel.specs.Waking.{clearAll, expireControl, scheduling, queueKeepalive, persistentKeepalive, keepalives, rekeyDue, wakeIdle, wakeInProgress, expireCookie, wakeLater, wakeRest, isLost, isReplaced, wakeCurrent, wakeSessions, sendScheduled, wake, handleTimeout};
 ghost use Rattle.tunnel.specs.Facts.{ControlWithin};
 
 impl Control {
     // Drops all sessions and resets the timers.
-    fn clear_all(self, store: &mut [u64], now: u64) -> Control
+    fn clear_all(mut self, store: &mut [u64], now: u64) -> Control
         ensures { λ r. ⌜ Leaves r (clearAll self (store .entry .now) now .control) (store .exit .now) (clearAll self (store .entry .now) now .store) ⌝ }
     {
-        let sessions = self.sessions;
-        let timers = self.timers;
-        let cleared = sessions.clear(store);
-        Control {
-            sessions: cleared,
-            timers: timers.clear(now),
-            ..self
-        }
+        self.sessions = self.sessions.clear(store);
+        self.timers = self.timers.clear(now);
+        self
     }
 
     // Ends the connection.
-    fn expire(self, store: &mut [u64], now: u64) -> Control
+    fn expire(mut self, store: &mut [u64], now: u64) -> Control
         requires { ⌜ RingWithin (self .events) ⌝ }
         ensures { λ r. ⌜ Leaves r (expireControl self (store .entry .now) now .control) (store .exit .now) (expireControl self (store .entry .now) now .store) ⌝ }
     {
-        let handshake = self.handshake;
-        let expired = Control {
-            handshake: handshake.set_expired(),
-            ..self
-        };
-        let cleared = expired.clear_all(store, now);
-        cleared.push_back(Event::ConnectionExpired)
+        self.handshake = self.handshake.set_expired();
+        self = self.clear_all(store, now);
+        self.push_back(Event::ConnectionExpired)
     }
 
     // Schedules a handshake after the jitter.
-    fn schedule_handshake(self, jitter: u64, now: u64) -> Control
+    fn schedule_handshake(mut self, jitter: u64, now: u64) -> Control
         requires { ⌜ (now ≤ timeLimit) × (jitter ≤ maxJitter) ⌝ }
         ensures { λ r. ⌜ r ≡ scheduling self jitter now ⌝ }
     {
-        let timers = self.timers;
-        Control {
-            timers: timers.schedule_handshake(now + jitter),
-            ..self
-        }
+        self.timers = self.timers.schedule_handshake(now + jitter);
+        self
     }
 
     // Queues a keepalive. None starts a handshake or waits for a session.
@@ -65,28 +53,25 @@ impl Control {
         ensures { λ r. ⌜ r ≡ queueKeepalive self now ⌝ }
     {
         let encrypted = self.encrypt_keepalive(now);
-        let control = encrypted.control;
         let keepalive = encrypted.keepalive;
         match keepalive {
-            Datagram::Skipped => control,
+            Datagram::Skipped => return encrypted.control,
             Datagram::Sent(peer, counter) => {
-                control.push_back(Event::SendKeepalive(peer, counter))
+                return encrypted
+                    .control
+                    .push_back(Event::SendKeepalive(peer, counter));
             }
         }
     }
 
     // Queues the persistent keepalive that is due, or the one that is required anyway.
-    fn persistent_keepalive(self, required: bool, now: u64) -> Control
+    fn persistent_keepalive(mut self, required: bool, now: u64) -> Control
         requires { ⌜ ControlWithin self timeLimit ⌝ }
         ensures { λ r. ⌜ r ≡ persistentKeepalive self required now ⌝ }
     {
         if due_by(self.next_persistent_keepalive(), now) {
-            let timers = self.timers;
-            let control = Control {
-                timers: timers.tick_persistent_keepalive(now),
-                ..self
-            };
-            return control.queue_keepalive(now);
+            self.timers = self.timers.tick_persistent_keepalive(now);
+            return self.queue_keepalive(now);
         }
         if required {
             return self.queue_keepalive(now);
@@ -95,17 +80,13 @@ impl Control {
     }
 
     // Queues a keepalive if one is due. The passive one's deadline is dropped even if there is no session for it.
-    fn keepalives(self, now: u64) -> Control
+    fn keepalives(mut self, now: u64) -> Control
         requires { ⌜ ControlWithin self timeLimit ⌝ }
         ensures { λ r. ⌜ r ≡ keepalives self now ⌝ }
     {
         if due_by(self.keepalive_after_time_without_send(), now) {
-            let timers = self.timers;
-            let control = Control {
-                timers: timers.consume_passive_keepalive(),
-                ..self
-            };
-            return control.persistent_keepalive(true, now);
+            self.timers = self.timers.consume_passive_keepalive();
+            return self.persistent_keepalive(true, now);
         }
         self.persistent_keepalive(false, now)
     }
@@ -159,16 +140,13 @@ impl Control {
     }
 
     // Drops the cookie if it has expired.
-    fn expire_cookie(self, now: u64) -> Control
+    fn expire_cookie(mut self, now: u64) -> Control
         requires { ⌜ ControlWithin self timeLimit ⌝ }
         ensures { λ r. ⌜ r ≡ expireCookie self now ⌝ }
     {
         if due_by(self.cookie_expiration(), now) {
-            let handshake = self.handshake;
-            return Control {
-                handshake: handshake.clear_cookie(),
-                ..self
-            };
+            self.handshake = self.handshake.clear_cookie();
+            return self;
         }
         self
     }
@@ -183,18 +161,18 @@ impl Control {
         }
         let retry = self.handshake_rekey_timeout();
         match retry {
-            Time::Never => self.wake_idle(required, jitter, now),
-            Time::At(_) => self.wake_in_progress(store, required, jitter, now),
+            Time::Never => return self.wake_idle(required, jitter, now),
+            Time::At(_) => return self.wake_in_progress(store, required, jitter, now),
         }
     }
 
     // The waking's rest once the sessions that are due are discarded.
-    fn wake_rest(self, store: &mut [u64], required: bool, jitter: u64, now: u64) -> Control
+    fn wake_rest(mut self, store: &mut [u64], required: bool, jitter: u64, now: u64) -> Control
         requires { ⌜ (ControlWithin self timeLimit) × (now ≤ timeLimit) × (jitter ≤ maxJitter) ⌝ }
         ensures { λ r. ⌜ Leaves r (wakeRest self (store .entry .now) required jitter now .control) (store .exit .now) (wakeRest self (store .entry .now) required jitter now .store) ⌝ }
     {
-        let control = self.expire_cookie(now);
-        control.wake_later(store, required, jitter, now)
+        self = self.expire_cookie(now);
+        self.wake_later(store, required, jitter, now)
     }
 
     // Whether an expired current session is presumed lost: it sent data and no newer session is stored.
@@ -202,8 +180,7 @@ impl Control {
         ensures { λ r. ⌜ r ≡ isLost self session ⌝ }
     {
         if session.sent_data {
-            let sessions = self.sessions;
-            return sessions.is_empty();
+            return self.sessions.is_empty();
         }
         false
     }
@@ -215,13 +192,12 @@ impl Control {
         let role = session.role;
         match role {
             Role::Initiator => {
-                let handshake = self.handshake;
-                if handshake.is_in_progress() {
+                if self.handshake.is_in_progress() {
                     return false;
                 }
-                true
+                return true;
             }
-            Role::Responder => false,
+            Role::Responder => return false,
         }
     }
 
@@ -231,45 +207,38 @@ impl Control {
         ensures { λ r. ⌜ Leaves r (wakeCurrent self (store .entry .now) expired jitter now .control) (store .exit .now) (wakeCurrent self (store .entry .now) expired jitter now .store) ⌝ }
     {
         match expired {
-            Found::Nothing => self.wake_rest(store, false, jitter, now),
+            Found::Nothing => return self.wake_rest(store, false, jitter, now),
             Found::Got(session) => {
                 if self.is_lost(session) {
                     return self.expire(store, now);
                 }
-                self.wake_rest(store, self.is_replaced(session), jitter, now)
+                return self.wake_rest(store, self.is_replaced(session), jitter, now);
             }
         }
     }
 
     // The waking's part from the sessions' expiry on.
-    fn wake_sessions(self, store: &mut [u64], jitter: u64, now: u64) -> Control
+    fn wake_sessions(mut self, store: &mut [u64], jitter: u64, now: u64) -> Control
         requires { ⌜ (ControlWithin self timeLimit) × (now ≤ timeLimit) × (jitter ≤ maxJitter) ⌝ }
         ensures { λ r. ⌜ Leaves r (wakeSessions self (store .entry .now) jitter now .control) (store .exit .now) (wakeSessions self (store .entry .now) jitter now .store) ⌝ }
     {
-        let sessions = self.sessions;
-        let expired = sessions.expire(store, now);
+        let expired = self.sessions.expire(store, now);
         let after = expired.sessions;
         let current = expired.current;
-        let control = Control {
-            sessions: after,
-            ..self
-        };
-        control.wake_current(store, current, jitter, now)
+        self.sessions = after;
+        self.wake_current(store, current, jitter, now)
     }
 
     // Sends the scheduled handshake.
-    fn send_scheduled(self, now: u64) -> Control
+    fn send_scheduled(mut self, now: u64) -> Control
         requires { ⌜ RingWithin (self .events) ⌝ }
         ensures { λ r. ⌜ r ≡ sendScheduled self now ⌝ }
     {
-        let timers = self.timers;
-        let taken = Control {
-            timers: timers.cancel_scheduled_handshake(),
-            ..self
-        };
-        let initiated = taken.initiate(now);
-        let control = initiated.control;
-        control.push_back(Event::SendHandshakeInitiation(initiated.local_index))
+        self.timers = self.timers.cancel_scheduled_handshake();
+        let initiated = self.initiate(now);
+        initiated
+            .control
+            .push_back(Event::SendHandshakeInitiation(initiated.local_index))
     }
 
     // The waking of a tunnel that is not expired. A scheduled handshake is waited for rather than another one scheduled.
@@ -282,8 +251,8 @@ impl Control {
             return self.send_scheduled(now);
         }
         match scheduled {
-            Time::Never => self.wake_sessions(store, jitter, now),
-            Time::At(_) => self,
+            Time::Never => return self.wake_sessions(store, jitter, now),
+            Time::At(_) => return self,
         }
     }
 

@@ -7,13 +7,14 @@ use Rattle.sessions.specs.Sessions.{caseFound, caseSelected, emptySlots, newSes
 use Rattle.sessions.specs.Store.{zeros}
 use Rattle.tunnel.specs.Answer.{numberOf, eventWord, eventValues, timeWord, timeValues, wordOf, valuesOf}
 use Rattle.tunnel.specs.Arguments.{intervalOf, lacking, badJitter, creationNumber}
-use Rattle.tunnel.specs.Check.{timeHolds, stateHolds, inRange, intervalHolds, bothAtMost, eventHolds, slotHolds, slotsHold, queueHolds, eventsHold, handshakeHolds, packetTimersHold, dataTimersHold, fieldsHold, timersHold, storedHolds, controlHolds, undamaged}
+use Rattle.parts.specs.Check.{timeHolds, stateHolds, inRange, intervalHolds, bothAtMost, eventHolds, slotHolds, slotsHold, queueHolds, eventsHold, handshakeHolds, packetTimersHold, dataTimersHold, fieldsHold, timersHold}
+use Rattle.tunnel.specs.Check.{storedHolds, controlHolds, undamaged}
 use Rattle.tunnel.specs.Control.{newControl, refuse, done, expiredControl, queueing, pollEvent}
 use Rattle.tunnel.specs.Deadlines.{scheduledHandshake, earliestExpiry, cookieDeadline, rejectDeadline, attemptDeadline, handshakeRekeyTimeout, rekeyOnSend, rekeyAfterMessages, rekeyOnReceive, responseDeadline, passiveDeadline, persistentDeadline, currentPersistentDeadline, commonDeadline, rekeyDeadline, keepaliveDeadline, unscheduledDeadline, nextDeadline, notBefore, pollTimeout}
-use Rattle.tunnel.specs.Event.{caseEvent}
-use Rattle.tunnel.specs.Handshake.{caseState, newHandshake, isInProgress, inFlightInitiation, isExpired, cookieExpiration}
-use Rattle.tunnel.specs.RingBuffer.{placeOf, emptyPlaces, newRing, ringIsEmpty, storeAt, pushBack, popFront, eventsFrom, queued}
-use Rattle.tunnel.specs.Timers.{caseInterval, newTimers, rejectAfterTimeOf, rekeyAfterTimeWithoutResponse, keepaliveAfterTimeWithoutSend, nextPersistentKeepalive, tickPersistentKeepalive, rekeyTimeoutOf}
+use Rattle.parts.specs.Event.{caseEvent}
+use Rattle.parts.specs.Handshake.{caseState, newHandshake, isInProgress, inFlightInitiation, isExpired, cookieExpiration}
+use Rattle.parts.specs.RingBuffer.{placeOf, emptyPlaces, newRing, ringIsEmpty, storeAt, pushBack, popFront, eventsFrom, queued}
+use Rattle.parts.specs.Timers.{caseInterval, newTimers, rejectAfterTimeOf, rekeyAfterTimeWithoutResponse, keepaliveAfterTimeWithoutSend, nextPersistentKeepalive, tickPersistentKeepalive, rekeyTimeoutOf}
 use Rattle.tunnel.specs.Transport.{caseDatagram, encryptKeepalive}
 use Rattle.tunnel.specs.Tunnel.{made, gate, timelessGate, refused, settled, timed, timeless, kept, timedTurn, callNew, callTimeout, callEvent, callDeadline}
 use Rattle.tunnel.specs.Waking.{queueKeepalive, persistentKeepalive, keepalives, rekeyDue, wakeIdle, expireCookie, wakeLater, wakeRest, wakeCurrent, wakeSessions, wake, handleTimeout}

@@ -1,4 +1,4 @@
-use Rattle.tunnel.specs.Transport.{beginEncapsulate}
+use Rattle.tunnel.proofs.Chains.{chain-begun}
 use borrow.Author.Needs.{needs}
 use Rattle.tunnel.proofs.control.Control.begin_encapsulate.Statement.{statement}
 use Rattle.tunnel.proofs.control.Control.begin_encapsulate.Tie as tie
@@ -13,8 +13,7 @@ put-requires : tie.Need-put-requires
 put-requires c κs = search needs
 
 returns : tie.Need-returns
-unfolding beginEncapsulate
-returns c = cc
+returns c = search (chain-begun, needs)
 
 pub begin-encapsulate-spec : {M : Type 1} → statement M
 begin-encapsulate-spec = tie.close (tie.spec tick-last-packet-sent-requires

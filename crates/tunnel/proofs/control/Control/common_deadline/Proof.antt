@@ -1,4 +1,4 @@
-use Rattle.tunnel.specs.Deadlines.{commonDeadline}
+use Rattle.tunnel.proofs.Chains.{chain-common}
 use borrow.Author.Needs.{needs}
 use Rattle.tunnel.proofs.control.Control.common_deadline.Statement.{statement}
 use Rattle.tunnel.proofs.control.Control.common_deadline.Tie as tie
@@ -19,8 +19,7 @@ earlier-requires-2 : tie.Need-earlier-requires-2
 earlier-requires-2 c κs = search needs
 
 returns : tie.Need-returns
-unfolding commonDeadline
-returns c = cc
+returns c = search (chain-common, needs)
 
 pub common-deadline-spec : {M : Type 1} → statement M
 common-deadline-spec = tie.close (tie.spec next-expiry-requires

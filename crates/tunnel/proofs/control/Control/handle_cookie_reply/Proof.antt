@@ -24,26 +24,29 @@ enum-known-cookie c = search needs
 refuse-requires-2 : tie.Need-refuse-requires-2
 refuse-requires-2 c κs = search needs
 
+returns-2 : tie.Need-returns-2
+returns-2 c = search (way-cookie-refused, needs)
+
 enum-known-cookie-2 : tie.Need-enum-known-cookie-2
 enum-known-cookie-2 c = search needs
 
 done-requires : tie.Need-done-requires
 done-requires c κs = search needs
 
-returns-2 : tie.Need-returns-2
-returns-2 c = search (way-cookie-refused, needs)
-
 returns-3 : tie.Need-returns-3
 returns-3 c = search (way-cookie, needs)
 
 pub handle-cookie-reply-spec : {M : Type 1} → statement M
-handle-cookie-reply-spec = tie.close (tie.spec is-expired-requires
+handle-cookie-reply-spec =
+    tie.close
+    (tie.spec
+    is-expired-requires
     refuse-requires
     returns
     receive-cookie-reply-requires
     enum-known-cookie
     refuse-requires-2
+    returns-2
     enum-known-cookie-2
     done-requires
-    returns-2
     returns-3)

@@ -21,14 +21,14 @@ enum-known-completed c = search needs
 refuse-requires-2 : tie.Need-refuse-requires-2
 refuse-requires-2 c κs = search needs
 
+returns-2 : tie.Need-returns-2
+returns-2 c = search (way-response-failed, needs)
+
 enum-known-completed-2 : tie.Need-enum-known-completed-2
 enum-known-completed-2 c = search needs
 
 complete-requires : tie.Need-complete-requires
 complete-requires c κs = search needs
-
-returns-2 : tie.Need-returns-2
-returns-2 c = search (way-response-failed, needs)
 
 same-length : tie.Need-same-length
 same-length c = search needs
@@ -37,14 +37,17 @@ returns-3 : tie.Need-returns-3
 returns-3 c = search (way-response, needs)
 
 pub handle-handshake-response-spec : {M : Type 1} → statement M
-handle-handshake-response-spec = tie.close (tie.spec is-expired-requires
+handle-handshake-response-spec =
+    tie.close
+    (tie.spec
+    is-expired-requires
     refuse-requires
     returns
     receive-handshake-response-requires
     enum-known-completed
     refuse-requires-2
+    returns-2
     enum-known-completed-2
     complete-requires
-    returns-2
     same-length
     returns-3)

@@ -1,5 +1,5 @@
+use Rattle.tunnel.proofs.Chains.{chain-retry}
 use Rattle.tunnel.proofs.Later.{in-flight-within}
-use Rattle.tunnel.specs.Deadlines.{handshakeRekeyTimeout}
 use borrow.Author.Needs.{needs}
 use Rattle.tunnel.proofs.control.Control.handshake_rekey_timeout.Statement.{statement}
 use Rattle.tunnel.proofs.control.Control.handshake_rekey_timeout.Tie as tie
@@ -11,8 +11,7 @@ rekey-timeout-requires : tie.Need-rekey-timeout-requires
 rekey-timeout-requires c κs = search (in-flight-within, needs)
 
 returns : tie.Need-returns
-unfolding handshakeRekeyTimeout
-returns c = cc
+returns c = search (chain-retry, needs)
 
 pub handshake-rekey-timeout-spec : {M : Type 1} → statement M
 handshake-rekey-timeout-spec = tie.close (tie.spec in-flight-initiation-requires

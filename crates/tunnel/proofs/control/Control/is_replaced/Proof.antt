@@ -15,21 +15,17 @@ returns : tie.Need-returns
 unfolding isReplaced
 returns c = search (cases, picks, needs)
 
-enum-told-2 : tie.Need-enum-told-2
-enum-told-2 c = search needs
-
 returns-2 : tie.Need-returns-2
 unfolding isReplaced
 returns-2 c = search (cases, picks, needs)
+
+enum-told-2 : tie.Need-enum-told-2
+enum-told-2 c = search needs
 
 returns-3 : tie.Need-returns-3
 unfolding isReplaced
 returns-3 c = search (cases, picks, needs)
 
 pub is-replaced-spec : {M : Type 1} → statement M
-is-replaced-spec = tie.close (tie.spec enum-told
-    is-in-progress-requires
-    returns
-    enum-told-2
-    returns-2
-    returns-3)
+is-replaced-spec =
+    tie.close (tie.spec enum-told is-in-progress-requires returns returns-2 enum-told-2 returns-3)

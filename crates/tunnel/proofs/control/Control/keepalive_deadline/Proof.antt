@@ -1,4 +1,4 @@
-use Rattle.tunnel.specs.Deadlines.{keepaliveDeadline}
+use Rattle.tunnel.proofs.Chains.{chain-keepalive}
 use borrow.Author.Needs.{needs}
 use Rattle.tunnel.proofs.control.Control.keepalive_deadline.Statement.{statement}
 use Rattle.tunnel.proofs.control.Control.keepalive_deadline.Tie as tie
@@ -13,8 +13,7 @@ earlier-requires : tie.Need-earlier-requires
 earlier-requires c κs = search needs
 
 returns : tie.Need-returns
-unfolding keepaliveDeadline
-returns c = cc
+returns c = search (chain-keepalive, needs)
 
 pub keepalive-deadline-spec : {M : Type 1} → statement M
 keepalive-deadline-spec = tie.close (tie.spec keepalive-after-time-without-send-requires

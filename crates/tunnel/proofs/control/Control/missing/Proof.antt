@@ -13,12 +13,12 @@ enum-known-missing c = search needs
 refuse-requires : tie.Need-refuse-requires
 refuse-requires c κs = search needs
 
-enum-known-missing-2 : tie.Need-enum-known-missing-2
-enum-known-missing-2 c = search needs
-
 returns : tie.Need-returns
 unfolding missingReport
 returns c = search (cases, needs)
+
+enum-known-missing-2 : tie.Need-enum-known-missing-2
+enum-known-missing-2 c = search needs
 
 returns-2 : tie.Need-returns-2
 unfolding missingReport
@@ -31,6 +31,6 @@ missing-spec =
     missing-requires
     enum-known-missing
     refuse-requires
-    enum-known-missing-2
     returns
+    enum-known-missing-2
     returns-2)

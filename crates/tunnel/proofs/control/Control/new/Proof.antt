@@ -1,4 +1,4 @@
-use Rattle.tunnel.specs.Control.{newControl}
+use Rattle.tunnel.proofs.Chains.{chain-new}
 use borrow.Author.Needs.{needs}
 use Rattle.tunnel.proofs.control.Control.new.Statement.{statement}
 use Rattle.tunnel.proofs.control.Control.new.Tie as tie
@@ -16,8 +16,7 @@ new-requires-4 : tie.Need-new-requires-4
 new-requires-4 c κs = search needs
 
 returns : tie.Need-returns
-unfolding newControl
-returns c = cc
+returns c = search (chain-new, needs)
 
 pub new-spec : {M : Type 1} → statement M
 new-spec = tie.close (tie.spec new-requires new-requires-2 new-requires-3 new-requires-4 returns)

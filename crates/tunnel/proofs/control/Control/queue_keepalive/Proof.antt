@@ -10,22 +10,25 @@ encrypt-keepalive-requires c κs = search needs
 enum-told : tie.Need-enum-told
 enum-told c = search needs
 
+returns : tie.Need-returns
+returns c = search (skipped, needs)
+
 enum-known-keepalive : tie.Need-enum-known-keepalive
 enum-known-keepalive c = search needs
 
 push-back-requires : tie.Need-push-back-requires
 push-back-requires c κs = search (keepalive-ring, needs)
 
-returns : tie.Need-returns
-returns c = search (skipped, needs)
-
 returns-2 : tie.Need-returns-2
 returns-2 c = search (sent, needs)
 
 pub queue-keepalive-spec : {M : Type 1} → statement M
-queue-keepalive-spec = tie.close (tie.spec encrypt-keepalive-requires
+queue-keepalive-spec =
+    tie.close
+    (tie.spec
+    encrypt-keepalive-requires
     enum-told
+    returns
     enum-known-keepalive
     push-back-requires
-    returns
     returns-2)

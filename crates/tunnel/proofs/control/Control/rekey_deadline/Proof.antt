@@ -1,4 +1,4 @@
-use Rattle.tunnel.specs.Deadlines.{rekeyDeadline}
+use Rattle.tunnel.proofs.Chains.{chain-rekey}
 use borrow.Author.Needs.{needs}
 use Rattle.tunnel.proofs.control.Control.rekey_deadline.Statement.{statement}
 use Rattle.tunnel.proofs.control.Control.rekey_deadline.Tie as tie
@@ -25,8 +25,7 @@ earlier-requires-3 : tie.Need-earlier-requires-3
 earlier-requires-3 c κs = search needs
 
 returns : tie.Need-returns
-unfolding rekeyDeadline
-returns c = cc
+returns c = search (chain-rekey, needs)
 
 pub rekey-deadline-spec : {M : Type 1} → statement M
 rekey-deadline-spec = tie.close (tie.spec rekey-after-time-on-send-requires

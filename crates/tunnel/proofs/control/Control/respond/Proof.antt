@@ -12,6 +12,9 @@ enum-known-completed c = search needs
 refuse-requires : tie.Need-refuse-requires
 refuse-requires c κs = search needs
 
+returns : tie.Need-returns
+returns c = search (way-respond-failed, needs)
+
 enum-known-completed-2 : tie.Need-enum-known-completed-2
 enum-known-completed-2 c = search needs
 
@@ -21,9 +24,6 @@ responded-requires c κs = search needs
 done-requires : tie.Need-done-requires
 done-requires c κs = search needs
 
-returns : tie.Need-returns
-returns c = search (way-respond-failed, needs)
-
 same-length : tie.Need-same-length
 same-length c = search needs
 
@@ -31,12 +31,15 @@ returns-2 : tie.Need-returns-2
 returns-2 c = search (way-respond, needs)
 
 pub respond-spec : {M : Type 1} → statement M
-respond-spec = tie.close (tie.spec receive-handshake-initialization-requires
+respond-spec =
+    tie.close
+    (tie.spec
+    receive-handshake-initialization-requires
     enum-known-completed
     refuse-requires
+    returns
     enum-known-completed-2
     responded-requires
     done-requires
-    returns
     same-length
     returns-2)

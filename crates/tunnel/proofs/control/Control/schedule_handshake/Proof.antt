@@ -1,4 +1,4 @@
-use Rattle.tunnel.specs.Waking.{scheduling}
+use Rattle.tunnel.proofs.Chains.{chain-scheduled}
 use borrow.Author.Needs.{needs}
 use Rattle.tunnel.proofs.control.Control.schedule_handshake.Statement.{statement}
 use Rattle.tunnel.proofs.control.Control.schedule_handshake.Tie as tie
@@ -10,8 +10,7 @@ schedule-handshake-requires : tie.Need-schedule-handshake-requires
 schedule-handshake-requires c κs = search needs
 
 returns : tie.Need-returns
-unfolding scheduling
-returns c = cc
+returns c = search (chain-scheduled, needs)
 
 pub schedule-handshake-spec : {M : Type 1} → statement M
 schedule-handshake-spec = tie.close (tie.spec add-schedule-handshake

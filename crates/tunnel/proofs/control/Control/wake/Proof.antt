@@ -21,26 +21,29 @@ enum-told c = search needs
 wake-sessions-requires : tie.Need-wake-sessions-requires
 wake-sessions-requires c κs = search needs
 
-enum-told-2 : tie.Need-enum-told-2
-enum-told-2 c = search needs
-
 same-length : tie.Need-same-length
 same-length c = search needs
 
 returns-2 : tie.Need-returns-2
 returns-2 c = search (wake-unscheduled, needs)
 
+enum-told-2 : tie.Need-enum-told-2
+enum-told-2 c = search needs
+
 returns-3 : tie.Need-returns-3
 returns-3 c = search (wake-waited, needs)
 
 pub wake-spec : {M : Type 1} → statement M
-wake-spec = tie.close (tie.spec scheduled-handshake-requires
+wake-spec =
+    tie.close
+    (tie.spec
+    scheduled-handshake-requires
     due-by-requires
     send-scheduled-requires
     returns
     enum-told
     wake-sessions-requires
-    enum-told-2
     same-length
     returns-2
+    enum-told-2
     returns-3)

@@ -9,6 +9,12 @@ enum-told c = search needs
 wake-rest-requires : tie.Need-wake-rest-requires
 wake-rest-requires c κs = search needs
 
+same-length : tie.Need-same-length
+same-length c = search needs
+
+returns : tie.Need-returns
+returns c = search (current-none, needs)
+
 enum-known-expired : tie.Need-enum-known-expired
 enum-known-expired c = search needs
 
@@ -18,23 +24,17 @@ is-lost-requires c κs = search needs
 expire-requires : tie.Need-expire-requires
 expire-requires c κs = search needs
 
-same-length : tie.Need-same-length
-same-length c = search needs
+same-length-2 : tie.Need-same-length-2
+same-length-2 c = search needs
 
-returns : tie.Need-returns
-returns c = search (current-lost, needs)
+returns-2 : tie.Need-returns-2
+returns-2 c = search (current-lost, needs)
 
 is-replaced-requires : tie.Need-is-replaced-requires
 is-replaced-requires c κs = search needs
 
 wake-rest-requires-2 : tie.Need-wake-rest-requires-2
 wake-rest-requires-2 c κs = search needs
-
-same-length-2 : tie.Need-same-length-2
-same-length-2 c = search needs
-
-returns-2 : tie.Need-returns-2
-returns-2 c = search (current-none, needs)
 
 same-length-3 : tie.Need-same-length-3
 same-length-3 c = search needs
@@ -43,16 +43,19 @@ returns-3 : tie.Need-returns-3
 returns-3 c = search (current-left, needs)
 
 pub wake-current-spec : {M : Type 1} → statement M
-wake-current-spec = tie.close (tie.spec enum-told
+wake-current-spec =
+    tie.close
+    (tie.spec
+    enum-told
     wake-rest-requires
+    same-length
+    returns
     enum-known-expired
     is-lost-requires
     expire-requires
-    same-length
-    returns
-    is-replaced-requires
-    wake-rest-requires-2
     same-length-2
     returns-2
+    is-replaced-requires
+    wake-rest-requires-2
     same-length-3
     returns-3)

@@ -27,14 +27,14 @@ enum-told c = search needs
 wake-idle-requires : tie.Need-wake-idle-requires
 wake-idle-requires c κs = search needs
 
+returns-2 : tie.Need-returns-2
+returns-2 c = search (later-idle, needs)
+
 enum-told-2 : tie.Need-enum-told-2
 enum-told-2 c = search needs
 
 wake-in-progress-requires : tie.Need-wake-in-progress-requires
 wake-in-progress-requires c κs = search needs
-
-returns-2 : tie.Need-returns-2
-returns-2 c = search (later-idle, needs)
 
 same-length-2 : tie.Need-same-length-2
 same-length-2 c = search needs
@@ -43,7 +43,10 @@ returns-3 : tie.Need-returns-3
 returns-3 c = search (later-progress, needs)
 
 pub wake-later-spec : {M : Type 1} → statement M
-wake-later-spec = tie.close (tie.spec reject-after-time-requires
+wake-later-spec =
+    tie.close
+    (tie.spec
+    reject-after-time-requires
     due-by-requires
     expire-requires
     same-length
@@ -51,8 +54,8 @@ wake-later-spec = tie.close (tie.spec reject-after-time-requires
     handshake-rekey-timeout-requires
     enum-told
     wake-idle-requires
+    returns-2
     enum-told-2
     wake-in-progress-requires
-    returns-2
     same-length-2
     returns-3)

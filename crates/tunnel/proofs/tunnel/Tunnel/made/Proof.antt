@@ -1,4 +1,4 @@
-use Rattle.tunnel.specs.Tunnel.{made}
+use Rattle.tunnel.proofs.Chains.{chain-made}
 use borrow.Author.Needs.{needs}
 use Rattle.tunnel.proofs.tunnel.Tunnel.made.Statement.{statement}
 use Rattle.tunnel.proofs.tunnel.Tunnel.made.Tie as tie
@@ -10,8 +10,7 @@ new-requires : tie.Need-new-requires
 new-requires c κs = search needs
 
 returns : tie.Need-returns
-unfolding made
-returns c = cc
+returns c = search (chain-made, needs)
 
 pub made-spec : {M : Type 1} → statement M
 made-spec = tie.close (tie.spec interval-of-requires

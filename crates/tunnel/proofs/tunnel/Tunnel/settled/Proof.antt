@@ -1,4 +1,4 @@
-use Rattle.tunnel.specs.Tunnel.{settled}
+use Rattle.tunnel.proofs.Chains.{chain-settled}
 use borrow.Author.Needs.{needs}
 use Rattle.tunnel.proofs.tunnel.Tunnel.settled.Statement.{statement}
 use Rattle.tunnel.proofs.tunnel.Tunnel.settled.Tie as tie
@@ -10,8 +10,7 @@ set-if-requires-2 : tie.Need-set-if-requires-2
 set-if-requires-2 c κs = search needs
 
 returns : tie.Need-returns
-unfolding settled
-returns c = cc
+returns c = search (chain-settled, needs)
 
 pub settled-spec : {M : Type 1} → statement M
 settled-spec = tie.close (tie.spec set-if-requires

@@ -1,0 +1,4 @@
+pub mod Cases
+pub mod Loops
+pub mod Queue
+pub mod Ways

@@ -1,0 +1,23 @@
+use Rattle.parts.specs.Check.{eventsHold}
+use Rattle.base.proofs.Choice.{picks}
+use borrow.Author.Needs.{needs}
+use Rattle.parts.proofs.check.events_hold.Statement.{statement}
+use Rattle.parts.proofs.check.events_hold.Tie as tie
+
+returns : tie.Need-returns
+unfolding eventsHold
+returns c = search (picks, needs)
+
+returns-2 : tie.Need-returns-2
+unfolding eventsHold
+returns-2 c = search (picks, needs)
+
+queue-holds-requires : tie.Need-queue-holds-requires
+queue-holds-requires c κs = search needs
+
+returns-3 : tie.Need-returns-3
+unfolding eventsHold
+returns-3 c = search (picks, needs)
+
+pub events-hold-spec : {M : Type 1} → statement M
+events-hold-spec = tie.close (tie.spec returns returns-2 queue-holds-requires returns-3)
