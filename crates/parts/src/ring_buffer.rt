@@ -21,7 +21,7 @@ pub struct Popped {
 }
 
 // The place at an offset from the head.
-pub fn place_of(head: usize, offset: usize) -> usize
+pub(crate) fn place_of(head: usize, offset: usize) -> usize
     requires { ⌜ (head ≤ 15) × (offset ≤ 16) ⌝ }
     ensures { λ r. ⌜ r ≡ placeOf head offset ⌝ }
 {

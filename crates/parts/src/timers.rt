@@ -157,7 +157,7 @@ impl Timers {
     }
 
     // A handshake completed.
-    pub fn tick_last_handshake_completed(mut self, now: u64) -> Timers
+    pub(crate) fn tick_last_handshake_completed(mut self, now: u64) -> Timers
         ensures { λ r. ⌜ r ≡ tickLastHandshakeCompleted self now ⌝ }
     {
         self.time_last_handshake_completed = now;
@@ -165,7 +165,7 @@ impl Timers {
     }
 
     // A round of handshake attempts began.
-    pub fn tick_last_handshake_started(mut self, now: u64) -> Timers
+    pub(crate) fn tick_last_handshake_started(mut self, now: u64) -> Timers
         ensures { λ r. ⌜ r ≡ tickLastHandshakeStarted self now ⌝ }
     {
         self.time_last_handshake_started = now;
