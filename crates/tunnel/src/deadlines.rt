@@ -8,7 +8,7 @@ ghost use mathlib.Core.Path.{_≡_};
 ghost use lib.Dec.{ltb};
 ghost use Rattle.base.specs.Choice.{choose};
 ghost use Rattle.sessions.specs.Session.{timeLimit};
-ghost use Rattle.tunnel.specs.Deadlines.{scheduledHandshake, earliestExpiry, cookieDeadline, rejectDeadline, attemptDeadline, handshakeRekeyTimeout, rekeyOnSend, rekeyAfterMessages, rekeyOnReceive, responseDeadline, passiveDeadline, persistentDeadline, currentPersistentDeadline, commonDeadline, rekeyDeadline, keepaliveDeadline, nextDeadline, unscheduledDeadline, pollTimeout, notBefore};
+ghost use Rattle.tunnel.specs.Deadlines.{scheduledHandshake, handshakeRekeyTimeout, rekeyOnSend, rekeyAfterMessages, rekeyOnReceive, currentPersistentDeadline, commonDeadline, rekeyDeadline, keepaliveDeadline, nextDeadline, unscheduledDeadline, pollTimeout, notBefore};
 ghost use Rattle.tunnel.specs.Facts.{ControlWithin};
 
 // A deadline, or the last update where it has elapsed before that.
@@ -38,38 +38,6 @@ impl Control {
     {
         let timers = self.timers;
         timers.send_handshake_at
-    }
-
-    // When the earliest session expires.
-    pub(crate) fn next_expiry(self) -> Time
-        requires { ⌜ ControlWithin self timeLimit ⌝ }
-        ensures { λ r. ⌜ r ≡ earliestExpiry self ⌝ }
-    {
-        self.sessions.next_expiry()
-    }
-
-    // When the stored cookie expires.
-    pub(crate) fn cookie_expiration(self) -> Time
-        requires { ⌜ ControlWithin self timeLimit ⌝ }
-        ensures { λ r. ⌜ r ≡ cookieDeadline self ⌝ }
-    {
-        self.handshake.cookie_expiration()
-    }
-
-    // When the connection expires for want of a handshake.
-    pub(crate) fn reject_after_time(self) -> Time
-        requires { ⌜ ControlWithin self timeLimit ⌝ }
-        ensures { λ r. ⌜ r ≡ rejectDeadline self ⌝ }
-    {
-        self.timers.reject_after_time()
-    }
-
-    // When unanswered handshake attempts are given up.
-    pub(crate) fn rekey_attempt_deadline(self) -> Time
-        requires { ⌜ ControlWithin self timeLimit ⌝ }
-        ensures { λ r. ⌜ r ≡ attemptDeadline self ⌝ }
-    {
-        self.timers.rekey_attempt_deadline()
     }
 
     // The retry deadline of the initiation that awaits a response.
@@ -115,30 +83,6 @@ impl Control {
         session.reject_after_time_on_receive()
     }
 
-    // The new-handshake deadline for data sent without a reply.
-    pub(crate) fn rekey_after_time_without_response(self) -> Time
-        requires { ⌜ ControlWithin self timeLimit ⌝ }
-        ensures { λ r. ⌜ r ≡ responseDeadline self ⌝ }
-    {
-        self.timers.rekey_after_time_without_response()
-    }
-
-    // The passive-keepalive deadline for data received without a reply.
-    pub(crate) fn keepalive_after_time_without_send(self) -> Time
-        requires { ⌜ ControlWithin self timeLimit ⌝ }
-        ensures { λ r. ⌜ r ≡ passiveDeadline self ⌝ }
-    {
-        self.timers.keepalive_after_time_without_send()
-    }
-
-    // The persistent-keepalive deadline, with or without a session.
-    pub(crate) fn next_persistent_keepalive(self) -> Time
-        requires { ⌜ ControlWithin self timeLimit ⌝ }
-        ensures { λ r. ⌜ r ≡ persistentDeadline self ⌝ }
-    {
-        self.timers.next_persistent_keepalive()
-    }
-
     // The persistent-keepalive deadline while a session is current.
     pub(crate) fn current_persistent_keepalive(self) -> Time
         requires { ⌜ ControlWithin self timeLimit ⌝ }
@@ -147,7 +91,7 @@ impl Control {
         let Found::Got(_) = self.sessions.current() else {
             return Time::Never;
         };
-        self.next_persistent_keepalive()
+        self.timers.next_persistent_keepalive()
     }
 
     // The deadlines that count at all times.
@@ -156,8 +100,11 @@ impl Control {
         ensures { λ r. ⌜ r ≡ commonDeadline self ⌝ }
     {
         earlier(
-            earlier(self.next_expiry(), self.cookie_expiration()),
-            self.reject_after_time(),
+            earlier(
+                self.sessions.next_expiry(),
+                self.handshake.cookie_expiration(),
+            ),
+            self.timers.reject_after_time(),
         )
     }
 
@@ -170,7 +117,7 @@ impl Control {
             earlier(self.rekey_after_time_on_send(), self.rekey_after_messages()),
             earlier(
                 self.reject_after_time_on_receive(),
-                self.rekey_after_time_without_response(),
+                self.timers.rekey_after_time_without_response(),
             ),
         )
     }
@@ -181,7 +128,7 @@ impl Control {
         ensures { λ r. ⌜ r ≡ keepaliveDeadline self ⌝ }
     {
         earlier(
-            self.keepalive_after_time_without_send(),
+            self.timers.keepalive_after_time_without_send(),
             self.current_persistent_keepalive(),
         )
     }
@@ -198,7 +145,10 @@ impl Control {
                 common,
                 earlier(self.rekey_deadline(), self.keepalive_deadline()),
             ),
-            Time::At(at) => earlier(common, earlier(Time::At(at), self.rekey_attempt_deadline())),
+            Time::At(at) => earlier(
+                common,
+                earlier(Time::At(at), self.timers.rekey_attempt_deadline()),
+            ),
         }
     }
 

@@ -69,7 +69,7 @@ impl Control {
         requires { ⌜ ControlWithin self timeLimit ⌝ }
         ensures { λ r. ⌜ r ≡ persistentKeepalive self required now ⌝ }
     {
-        if due_by(self.next_persistent_keepalive(), now) {
+        if due_by(self.timers.next_persistent_keepalive(), now) {
             self.timers = self.timers.tick_persistent_keepalive(now);
             return self.queue_keepalive(now);
         }
@@ -84,7 +84,7 @@ impl Control {
         requires { ⌜ ControlWithin self timeLimit ⌝ }
         ensures { λ r. ⌜ r ≡ keepalives self now ⌝ }
     {
-        if due_by(self.keepalive_after_time_without_send(), now) {
+        if due_by(self.timers.keepalive_after_time_without_send(), now) {
             self.timers = self.timers.consume_passive_keepalive();
             return self.persistent_keepalive(true, now);
         }
@@ -105,7 +105,7 @@ impl Control {
         if due_by(self.reject_after_time_on_receive(), now) {
             return true;
         }
-        due_by(self.rekey_after_time_without_response(), now)
+        due_by(self.timers.rekey_after_time_without_response(), now)
     }
 
     // The waking's rest while no initiation awaits a response.
@@ -127,7 +127,7 @@ impl Control {
         requires { ⌜ (ControlWithin self timeLimit) × (now ≤ timeLimit) × (jitter ≤ maxJitter) ⌝ }
         ensures { λ r. ⌜ Leaves r (wakeInProgress self (store .entry .now) required jitter now .control) (store .exit .now) (wakeInProgress self (store .entry .now) required jitter now .store) ⌝ }
     {
-        if due_by(self.rekey_attempt_deadline(), now) {
+        if due_by(self.timers.rekey_attempt_deadline(), now) {
             return self.expire(store, now);
         }
         if due_by(self.handshake_rekey_timeout(), now) {
@@ -144,7 +144,7 @@ impl Control {
         requires { ⌜ ControlWithin self timeLimit ⌝ }
         ensures { λ r. ⌜ r ≡ expireCookie self now ⌝ }
     {
-        if due_by(self.cookie_expiration(), now) {
+        if due_by(self.handshake.cookie_expiration(), now) {
             self.handshake = self.handshake.clear_cookie();
             return self;
         }
@@ -156,7 +156,7 @@ impl Control {
         requires { ⌜ (ControlWithin self timeLimit) × (now ≤ timeLimit) × (jitter ≤ maxJitter) ⌝ }
         ensures { λ r. ⌜ Leaves r (wakeLater self (store .entry .now) required jitter now .control) (store .exit .now) (wakeLater self (store .entry .now) required jitter now .store) ⌝ }
     {
-        if due_by(self.reject_after_time(), now) {
+        if due_by(self.timers.reject_after_time(), now) {
             return self.expire(store, now);
         }
         let retry = self.handshake_rekey_timeout();

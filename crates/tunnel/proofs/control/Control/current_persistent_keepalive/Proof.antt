@@ -1,5 +1,5 @@
 use Rattle.sessions.proofs.Cases.{cases}
-use Rattle.tunnel.specs.Deadlines.{currentPersistentDeadline}
+use Rattle.tunnel.specs.Deadlines.{currentPersistentDeadline, persistentDeadline}
 use borrow.Author.Needs.{needs}
 use Rattle.tunnel.proofs.control.Control.current_persistent_keepalive.Statement.{statement}
 use Rattle.tunnel.proofs.control.Control.current_persistent_keepalive.Tie as tie
@@ -14,14 +14,14 @@ enum-told-2 : tie.Need-enum-told-2
 enum-told-2 c = search needs
 
 returns : tie.Need-returns
-unfolding currentPersistentDeadline
+unfolding currentPersistentDeadline persistentDeadline
 returns c = search (cases, needs)
 
 next-persistent-keepalive-requires : tie.Need-next-persistent-keepalive-requires
 next-persistent-keepalive-requires c κs = search needs
 
 returns-2 : tie.Need-returns-2
-unfolding currentPersistentDeadline
+unfolding currentPersistentDeadline persistentDeadline
 returns-2 c = search (cases, needs)
 
 pub current-persistent-keepalive-spec : {M : Type 1} → statement M

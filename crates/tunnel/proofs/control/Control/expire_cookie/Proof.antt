@@ -1,3 +1,4 @@
+use Rattle.tunnel.specs.Deadlines.{cookieDeadline}
 use Rattle.tunnel.proofs.Woken.{cookie-due, cookie-kept}
 use borrow.Author.Needs.{needs}
 use Rattle.tunnel.proofs.control.Control.expire_cookie.Statement.{statement}
@@ -13,9 +14,11 @@ clear-cookie-requires : tie.Need-clear-cookie-requires
 clear-cookie-requires c κs = search needs
 
 returns : tie.Need-returns
+unfolding cookieDeadline
 returns c = search (cookie-due, needs)
 
 returns-2 : tie.Need-returns-2
+unfolding cookieDeadline
 returns-2 c = search (cookie-kept, needs)
 
 pub expire-cookie-spec : {M : Type 1} → statement M

@@ -1,3 +1,4 @@
+use Rattle.tunnel.specs.Deadlines.{passiveDeadline}
 use Rattle.tunnel.proofs.Chains.{chain-keepalive}
 use borrow.Author.Needs.{needs}
 use Rattle.tunnel.proofs.control.Control.keepalive_deadline.Statement.{statement}
@@ -13,6 +14,7 @@ earlier-requires : tie.Need-earlier-requires
 earlier-requires c κs = search needs
 
 returns : tie.Need-returns
+unfolding passiveDeadline
 returns c = search (chain-keepalive, needs)
 
 pub keepalive-deadline-spec : {M : Type 1} → statement M

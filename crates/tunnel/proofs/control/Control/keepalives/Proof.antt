@@ -1,3 +1,4 @@
+use Rattle.tunnel.specs.Deadlines.{passiveDeadline}
 use Rattle.tunnel.proofs.Steps.{consumed-within}
 use Rattle.tunnel.proofs.Woken.{passive-due, passive-none}
 use borrow.Author.Needs.{needs}
@@ -17,12 +18,14 @@ persistent-keepalive-requires : tie.Need-persistent-keepalive-requires
 persistent-keepalive-requires c κs = search (consumed-within, needs)
 
 returns : tie.Need-returns
+unfolding passiveDeadline
 returns c = search (passive-due, needs)
 
 persistent-keepalive-requires-2 : tie.Need-persistent-keepalive-requires-2
 persistent-keepalive-requires-2 c κs = search needs
 
 returns-2 : tie.Need-returns-2
+unfolding passiveDeadline
 returns-2 c = search (passive-none, needs)
 
 pub keepalives-spec : {M : Type 1} → statement M

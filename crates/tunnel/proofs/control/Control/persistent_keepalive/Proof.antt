@@ -1,3 +1,4 @@
+use Rattle.tunnel.specs.Deadlines.{persistentDeadline}
 use Rattle.tunnel.proofs.Woken.{persistent-due, persistent-required, persistent-none}
 use borrow.Author.Needs.{needs}
 use Rattle.tunnel.proofs.control.Control.persistent_keepalive.Statement.{statement}
@@ -16,15 +17,18 @@ queue-keepalive-requires : tie.Need-queue-keepalive-requires
 queue-keepalive-requires c κs = search needs
 
 returns : tie.Need-returns
+unfolding persistentDeadline
 returns c = search (persistent-due, needs)
 
 queue-keepalive-requires-2 : tie.Need-queue-keepalive-requires-2
 queue-keepalive-requires-2 c κs = search needs
 
 returns-2 : tie.Need-returns-2
+unfolding persistentDeadline
 returns-2 c = search (persistent-required, needs)
 
 returns-3 : tie.Need-returns-3
+unfolding persistentDeadline
 returns-3 c = search (persistent-none, needs)
 
 pub persistent-keepalive-spec : {M : Type 1} → statement M

@@ -1,3 +1,4 @@
+use Rattle.tunnel.specs.Deadlines.{responseDeadline}
 use Rattle.tunnel.proofs.Chains.{chain-rekey}
 use borrow.Author.Needs.{needs}
 use Rattle.tunnel.proofs.control.Control.rekey_deadline.Statement.{statement}
@@ -25,6 +26,7 @@ earlier-requires-3 : tie.Need-earlier-requires-3
 earlier-requires-3 c κs = search needs
 
 returns : tie.Need-returns
+unfolding responseDeadline
 returns c = search (chain-rekey, needs)
 
 pub rekey-deadline-spec : {M : Type 1} → statement M

@@ -1,3 +1,4 @@
+use Rattle.tunnel.specs.Deadlines.{responseDeadline}
 use Rattle.tunnel.proofs.Woken.{rekey-first, rekey-second, rekey-third, rekey-fourth}
 use borrow.Author.Needs.{needs}
 use Rattle.tunnel.proofs.control.Control.rekey_due.Statement.{statement}
@@ -10,6 +11,7 @@ due-by-requires : tie.Need-due-by-requires
 due-by-requires c κs = search needs
 
 returns : tie.Need-returns
+unfolding responseDeadline
 returns c = search (rekey-first, needs)
 
 rekey-after-messages-requires : tie.Need-rekey-after-messages-requires
@@ -19,6 +21,7 @@ due-by-requires-2 : tie.Need-due-by-requires-2
 due-by-requires-2 c κs = search needs
 
 returns-2 : tie.Need-returns-2
+unfolding responseDeadline
 returns-2 c = search (rekey-second, needs)
 
 reject-after-time-on-receive-requires : tie.Need-reject-after-time-on-receive-requires
@@ -28,6 +31,7 @@ due-by-requires-3 : tie.Need-due-by-requires-3
 due-by-requires-3 c κs = search needs
 
 returns-3 : tie.Need-returns-3
+unfolding responseDeadline
 returns-3 c = search (rekey-third, needs)
 
 rekey-after-time-without-response-requires : tie.Need-rekey-after-time-without-response-requires
@@ -37,6 +41,7 @@ due-by-requires-4 : tie.Need-due-by-requires-4
 due-by-requires-4 c κs = search needs
 
 returns-4 : tie.Need-returns-4
+unfolding responseDeadline
 returns-4 c = search (rekey-fourth, needs)
 
 pub rekey-due-spec : {M : Type 1} → statement M

@@ -1,3 +1,4 @@
+use Rattle.tunnel.specs.Deadlines.{attemptDeadline}
 use Rattle.tunnel.proofs.Due.{due-idle, due-retry}
 use borrow.Author.Needs.{needs}
 use Rattle.tunnel.proofs.control.Control.unscheduled_deadline.Statement.{statement}
@@ -37,9 +38,11 @@ earlier-requires-4 : tie.Need-earlier-requires-4
 earlier-requires-4 c κs = search needs
 
 returns : tie.Need-returns
+unfolding attemptDeadline
 returns c = search (due-idle, needs)
 
 returns-2 : tie.Need-returns-2
+unfolding attemptDeadline
 returns-2 c = search (due-retry, needs)
 
 pub unscheduled-deadline-spec : {M : Type 1} → statement M

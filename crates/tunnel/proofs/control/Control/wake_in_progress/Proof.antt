@@ -1,3 +1,4 @@
+use Rattle.tunnel.specs.Deadlines.{attemptDeadline}
 use Rattle.tunnel.proofs.Woken.{progress-ended, progress-retried, progress-required, progress-waited}
 use borrow.Author.Needs.{needs}
 use Rattle.tunnel.proofs.control.Control.wake_in_progress.Statement.{statement}
@@ -16,6 +17,7 @@ same-length : tie.Need-same-length
 same-length c = search needs
 
 returns : tie.Need-returns
+unfolding attemptDeadline
 returns c = search (progress-ended, needs)
 
 handshake-rekey-timeout-requires : tie.Need-handshake-rekey-timeout-requires
@@ -28,15 +30,18 @@ schedule-handshake-requires : tie.Need-schedule-handshake-requires
 schedule-handshake-requires c κs = search needs
 
 returns-2 : tie.Need-returns-2
+unfolding attemptDeadline
 returns-2 c = search (progress-retried, needs)
 
 schedule-handshake-requires-2 : tie.Need-schedule-handshake-requires-2
 schedule-handshake-requires-2 c κs = search needs
 
 returns-3 : tie.Need-returns-3
+unfolding attemptDeadline
 returns-3 c = search (progress-required, needs)
 
 returns-4 : tie.Need-returns-4
+unfolding attemptDeadline
 returns-4 c = search progress-waited
 
 pub wake-in-progress-spec : {M : Type 1} → statement M

@@ -1,3 +1,4 @@
+use Rattle.tunnel.specs.Deadlines.{rejectDeadline}
 use Rattle.tunnel.proofs.Woken.{later-ended, later-idle, later-progress}
 use borrow.Author.Needs.{needs}
 use Rattle.tunnel.proofs.control.Control.wake_later.Statement.{statement}
@@ -16,6 +17,7 @@ same-length : tie.Need-same-length
 same-length c = search needs
 
 returns : tie.Need-returns
+unfolding rejectDeadline
 returns c = search (later-ended, needs)
 
 handshake-rekey-timeout-requires : tie.Need-handshake-rekey-timeout-requires
@@ -28,6 +30,7 @@ wake-idle-requires : tie.Need-wake-idle-requires
 wake-idle-requires c κs = search needs
 
 returns-2 : tie.Need-returns-2
+unfolding rejectDeadline
 returns-2 c = search (later-idle, needs)
 
 enum-told-2 : tie.Need-enum-told-2
@@ -40,6 +43,7 @@ same-length-2 : tie.Need-same-length-2
 same-length-2 c = search needs
 
 returns-3 : tie.Need-returns-3
+unfolding rejectDeadline
 returns-3 c = search (later-progress, needs)
 
 pub wake-later-spec : {M : Type 1} → statement M
