@@ -1,6 +1,6 @@
 pub mod Admits
+pub mod After
 pub mod Changes
-pub mod Computed
 pub mod Example
 pub mod Granting
 pub mod Grown
@@ -11,9 +11,8 @@ pub mod Known
 pub mod Missing
 pub mod Moves
 pub mod Queued
+pub mod Ran
 pub mod Receiving
-pub mod Running
-pub mod Runs
 pub mod Sending
 pub mod Setting
 pub mod Stepped
@@ -21,3 +20,4 @@ pub mod Twins
 pub mod Verdicts
 pub mod Waked
 pub mod Wakings
+pub mod WakingsExample

@@ -10,7 +10,7 @@ use Rattle.base.specs.Choice.{choose}
 use Rattle.demands.proofs.Grown.{sound-after, sound-created}
 use Rattle.demands.proofs.Held.{SlotHeld}
 use Rattle.demands.proofs.Known.{Known}
-use Rattle.demands.proofs.Runs.{known-run}
+use Rattle.demands.proofs.After.{known-run}
 use Rattle.demands.specs.Calls.{World, step, after, created}
 use Rattle.demands.specs.Calls.Call.{missing}
 use Rattle.demands.specs.Missing.{MissingReport}

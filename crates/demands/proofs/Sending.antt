@@ -10,7 +10,7 @@ use Rattle.demands.proofs.Granting.Sends.{none, some}
 use Rattle.demands.proofs.Held.{Runs, long-from}
 use Rattle.demands.proofs.Known.{Known}
 use Rattle.demands.proofs.Queued.{queue-polled, put-none}
-use Rattle.demands.proofs.Runs.{known-run}
+use Rattle.demands.proofs.After.{known-run}
 use Rattle.demands.proofs.Stepped.{put, pushed, woke-step}
 use Rattle.demands.proofs.Waked.{Waked}
 use Rattle.demands.proofs.Waked.Waked.{silent, queues, grants}

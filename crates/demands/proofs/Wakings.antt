@@ -40,7 +40,7 @@ use Rattle.demands.specs.Calls.{Call, World, step, after, Creation, crea
 use Rattle.demands.specs.Calls.Call.{timeout}
 use Rattle.demands.specs.Wakings.{Step, shared, extra, plainCalls, wokenCalls, Ran, ran, ranAfter, ranNew, Current, Expired, BeforeDeadline, NotEarlier, ComesEarly, CurrentOrUnset, InOrder, Admissible, Same, CreatedAlike, ExtraWakingsLaw}
 use Rattle.demands.proofs.Grown.{sound-created, sound-step}
-use Rattle.demands.proofs.Running.{ranOf, ran-step}
+use Rattle.demands.proofs.Ran.{ranOf, ran-step}
 use Rattle.demands.proofs.Setting.{setting-stays}
 use Rattle.demands.proofs.Twins.{Twins, Pair, calls-alike}
 

@@ -1,4 +1,4 @@
-use Rattle.demands.proofs.Computed.{conditions-needed}
+use Rattle.demands.proofs.WakingsExample.{conditions-needed}
 use Rattle.demands.proofs.conditions_needed.Statement.{statement}
 use Rattle.demands.proofs.conditions_needed.Tie as tie
 

@@ -1,4 +1,4 @@
-use Rattle.demands.proofs.Computed.{extra-wakings-example}
+use Rattle.demands.proofs.WakingsExample.{extra-wakings-example}
 use Rattle.demands.proofs.extra_wakings_example.Statement.{statement}
 use Rattle.demands.proofs.extra_wakings_example.Tie as tie
 
