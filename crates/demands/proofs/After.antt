@@ -24,8 +24,8 @@ use Rattle.sessions.specs.Sessions.{emptySlots, newSessions}
 use Rattle.sessions.specs.Store.{zeros}
 use Rattle.tunnel.specs.Control.{newControl}
 use Rattle.tunnel.specs.Sound.{Sound}
-use Rattle.tunnel.specs.Tunnel.{Called, answered, callNew, refused}
 use Rattle.tunnel.specs.Tunnel as calls
+use Rattle.tunnel.specs.Tunnel.{Called, answered, callNew, refused}
 use Rattle.tunnel.specs.declared.answer.Answer.the-variants.{No, Done}
 
 -- what is known after a list of calls

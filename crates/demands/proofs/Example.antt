@@ -2,17 +2,17 @@
 -- Assumes nothing.
 use mathlib.Core.Path.{_≡_, refl}
 use native.Mathlib.Omega.{arith}
-use Rattle.demands.specs.Calls.{created}
-use Rattle.demands.specs.Calls.Call.{event}
-use Rattle.demands.specs.Example.{ExampleLaw}
-use Rattle.demands.specs.Made.{insertions}
 use lib.Count as count
 use Rattle.base.specs.Bits as bits
 use Rattle.base.specs.Choice as choice
 use Rattle.base.specs.Sums as sums
 use Rattle.demands.specs.Calls as calls
+use Rattle.demands.specs.Calls.{created}
+use Rattle.demands.specs.Calls.Call.{event}
 use Rattle.demands.specs.Example as example
+use Rattle.demands.specs.Example.{ExampleLaw}
 use Rattle.demands.specs.Made as made
+use Rattle.demands.specs.Made.{insertions}
 use Rattle.demands.specs.Receiving as receiving
 use Rattle.demands.specs.Sending as sending
 use Rattle.parts.specs.Check as parts

@@ -15,6 +15,7 @@ use Rattle.demands.proofs.Known.{Known, plain-of, Idle, idle-refused}
 use Rattle.demands.proofs.Moves.{InSlot, current-slot, put-at, changed-put}
 use Rattle.demands.specs.Made.{caseAnswer}
 use Rattle.demands.specs.Sending.{Grant, granting}
+use Rattle.parts.specs.Timers.{tickLastPacketSent}
 use Rattle.sessions.specs.Index.{slotIn}
 use Rattle.sessions.specs.Range.{range}
 use Rattle.sessions.specs.Session.{withCounter, reserveCounters, preparePacketData}
@@ -26,7 +27,6 @@ use Rattle.sessions.specs.declared.sessions.Sessions.{Sessions}
 use Rattle.tunnel.proofs.SoundSteps.{known-found, known-reserved, sending-current}
 use Rattle.tunnel.proofs.Steps.{of-choice}
 use Rattle.tunnel.specs.Control.{outcome, done, withSessions, withTimers}
-use Rattle.parts.specs.Timers.{tickLastPacketSent}
 use Rattle.tunnel.specs.Transport.{beginEncapsulate, finishEncapsulate, grant, send, encrypted, encryptKeepalive}
 use Rattle.tunnel.specs.declared.answer.Answer.the-variants.{No, Granted}
 use Rattle.tunnel.specs.declared.control.Control.{Control}

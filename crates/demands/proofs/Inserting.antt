@@ -13,24 +13,24 @@ use Rattle.demands.proofs.Granting.Encrypts.{skips, sends}
 use Rattle.demands.proofs.Known.{Known, known-as, Idle, idle-refused, known-carried, known-confirmed}
 use Rattle.demands.proofs.Moves.{carried-next, carried-current}
 use Rattle.demands.specs.Sending.{Grant, granting}
-use Rattle.sessions.specs.Session.{newSession, withId}
-use Rattle.sessions.specs.Sessions.{currentOf, insert, nextIndex, setCurrent}
-use Rattle.sessions.specs.declared.session.Role.the-variants.{Initiator, Responder}
-use Rattle.sessions.specs.declared.session.Session.{Session}
-use Rattle.sessions.specs.declared.sessions.Found.the-variants.{Got}
-use Rattle.tunnel.proofs.Responses.{keepalive-sent, stored, response-current, response-good}
-use Rattle.tunnel.proofs.SoundSteps.{SoundControl}
-use Rattle.tunnel.proofs.Steps.{of-choice}
-use Rattle.tunnel.specs.Control.{Turn, refuse, done, queueing, withSessions}
 use Rattle.parts.specs.Handshake.{caseCompleted, receiveHandshakeInitialization, receiveHandshakeResponse}
-use Rattle.tunnel.specs.Messages.{responding, respond, handleHandshakeInitiation, confirming, complete, handleHandshakeResponse}
-use Rattle.tunnel.specs.Transport.{encryptKeepalive, confirmFirstSession}
-use Rattle.tunnel.specs.declared.answer.Answer.the-variants.{Response, Keepalive}
-use Rattle.tunnel.specs.declared.control.Control.{Control}
-use Rattle.tunnel.specs.declared.control.Out.{Out}
 use Rattle.parts.specs.declared.handshake.Completed.{Completed}
 use Rattle.parts.specs.declared.handshake.Completed.the-variants.{Failed, Opened}
 use Rattle.parts.specs.declared.handshake.Handshake.{Handshake}
+use Rattle.sessions.specs.Session.{newSession, withId}
+use Rattle.sessions.specs.Sessions.{currentOf, insert, nextIndex}
+use Rattle.sessions.specs.declared.session.Role.the-variants.{Initiator, Responder}
+use Rattle.sessions.specs.declared.session.Session.{Session}
+use Rattle.sessions.specs.declared.sessions.Found.the-variants.{Got}
+use Rattle.tunnel.proofs.Responses.{keepalive-sent, confirming-sessions, stored, response-current, response-good}
+use Rattle.tunnel.proofs.SoundSteps.{SoundControl}
+use Rattle.tunnel.proofs.Steps.{of-choice}
+use Rattle.tunnel.specs.Control.{Turn, refuse, done, withSessions}
+use Rattle.tunnel.specs.Messages.{responding, respond, handleHandshakeInitiation, confirming, complete, handleHandshakeResponse}
+use Rattle.tunnel.specs.Transport.{encryptKeepalive}
+use Rattle.tunnel.specs.declared.answer.Answer.the-variants.{Response, Keepalive}
+use Rattle.tunnel.specs.declared.control.Control.{Control}
+use Rattle.tunnel.specs.declared.control.Out.{Out}
 use Rattle.tunnel.specs.declared.transport.Datagram.the-variants.{Sent}
 use Rattle.tunnel.specs.declared.transport.Encrypted.{Encrypted}
 
@@ -105,15 +105,6 @@ module _ (c : Control) (store : List ℕ) (peer outcome now : ℕ) where
   pub inserts-initiation : Inserts c store (handleHandshakeInitiation c store peer outcome now)
   unfolding handleHandshakeInitiation
   inserts-initiation = of-choice (λ (t : Turn). Inserts c store t) _ _ _ (nothing (idle-refused c store 11)) (responded _)
-
--- a confirmation leaves the sessions as they were
-confirmed-sessions : (c : Control) (start now : ℕ) → confirmFirstSession c start now .sessions ≡ c .sessions
-unfolding confirmFirstSession queueing
-confirmed-sessions c start now = of-choice (λ (y : Control). y .sessions ≡ c .sessions) _ _ _ refl refl
-
-confirming-sessions : (c : Control) (local now : ℕ) → confirming c local now .sessions ≡ setCurrent (c .sessions) local
-unfolding confirming
-confirming-sessions c local now = confirmed-sessions _ _ now
 
 -- what a lookup and a keepalive hold
 got-same : (x y : Session) → Got x ≡ Got y → x ≡ y

@@ -7,17 +7,17 @@ use Prim.Native.Nat.{ℕ, _-_, _<_}
 use lib.ListN.{length}
 use borrow.Author.Tests.{eq-eqb}
 use Rattle.base.specs.Choice.{choose}
+use Rattle.demands.proofs.After.{known-run}
 use Rattle.demands.proofs.Grown.{sound-after, sound-created}
 use Rattle.demands.proofs.Held.{SlotHeld}
 use Rattle.demands.proofs.Known.{Known}
-use Rattle.demands.proofs.After.{known-run}
 use Rattle.demands.specs.Calls.{World, step, after, created}
 use Rattle.demands.specs.Calls.Call.{missing}
 use Rattle.demands.specs.Missing.{MissingReport}
 use Rattle.demands.specs.Sending.{Grant}
 use Rattle.sessions.proofs.Judged.{missing-law}
-use Rattle.sessions.specs.Sessions.{caseFound, caseMissing, slotAt, inSlotOf, get}
 use Rattle.sessions.specs.Sessions as sessions
+use Rattle.sessions.specs.Sessions.{caseFound, caseMissing, slotAt, inSlotOf, get}
 use Rattle.sessions.specs.Store.{slotOf}
 use Rattle.sessions.specs.declared.session.Session.{Session}
 use Rattle.sessions.specs.declared.sessions.Found.the-variants.{Got}

@@ -9,9 +9,9 @@ use lib.ListN.{length, getD, take}
 use borrow.Author.Tests.{eq-eqb, lt-leb}
 use Rattle.base.proofs.Choice.{no-flag}
 use Rattle.base.specs.Choice.{choose}
+use Rattle.demands.proofs.After.{known-run}
 use Rattle.demands.proofs.Changes.{batch-judged}
 use Rattle.demands.proofs.Known.{Known}
-use Rattle.demands.proofs.After.{known-run}
 use Rattle.demands.proofs.Verdicts.{long-verdicts, each-verdict}
 use Rattle.demands.specs.Calls.{World, step, after, created}
 use Rattle.demands.specs.Receiving.{Batch, receiving, Live, Judges, Receiving}

@@ -25,6 +25,10 @@ use Rattle.demands.specs.Calls.Call.{start, restart, send, receive, look
 use Rattle.demands.specs.Made.{caseBatch, caseWaking, caseAnswer, inserts}
 use Rattle.demands.specs.Receiving.{committing}
 use Rattle.demands.specs.Sending.{Grant, granting, currentIn, putLast, keepaliveBy, wokenGrant, answeredGrant}
+use Rattle.parts.specs.Event.{caseEvent}
+use Rattle.parts.specs.RingBuffer.{pushBack}
+use Rattle.parts.specs.declared.event.Event.{Event}
+use Rattle.parts.specs.declared.event.Event.the-variants.{Empty, SendKeepalive}
 use Rattle.sessions.specs.History.{recordedAll}
 use Rattle.sessions.specs.Sessions.{caseFound, currentOf}
 use Rattle.sessions.specs.declared.session.Session.{Session}
@@ -34,10 +38,8 @@ use Rattle.tunnel.proofs.SoundCalls.{its-control}
 use Rattle.tunnel.proofs.SoundSteps.{sound-later}
 use Rattle.tunnel.proofs.Steps.{of-choice}
 use Rattle.tunnel.specs.Answer.{numberOf}
-use Rattle.tunnel.specs.Control.{Turn, refuse, done}
-use Rattle.parts.specs.Event.{caseEvent}
 use Rattle.tunnel.specs.Arguments.{initiationOutcome, openingOutcome}
-use Rattle.parts.specs.RingBuffer.{pushBack}
+use Rattle.tunnel.specs.Control.{Turn, refuse, done}
 use Rattle.tunnel.specs.Sound.{Sound}
 use Rattle.tunnel.specs.Transport.{Batched}
 use Rattle.tunnel.specs.Tunnel.{Called, CalledBatch, gate, refused, settled, timed, timeless, kept, timedTurn, timedBatch, callStart, callRestart, callSend, callReceive, callLook, callInitiation, callResponse, callCookie, callTimeout, callEvent, callDeadline, callMissing}
@@ -46,8 +48,6 @@ use Rattle.tunnel.specs.declared.answer.Answer.{Answer}
 use Rattle.tunnel.specs.declared.answer.Answer.the-variants.{No, Done}
 use Rattle.tunnel.specs.declared.control.Control.{Control}
 use Rattle.tunnel.specs.declared.control.Out.{Out}
-use Rattle.parts.specs.declared.event.Event.{Event}
-use Rattle.parts.specs.declared.event.Event.the-variants.{Empty, SendKeepalive}
 use Rattle.tunnel.specs.declared.tunnel.Answered.{Answered}
 
 -- what is known after a call

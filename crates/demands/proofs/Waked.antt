@@ -13,6 +13,11 @@ use Rattle.demands.proofs.Known.{Known}
 use Rattle.demands.proofs.Moves.{carried-next, Thinned, thinned-expire, thinned-clear}
 use Rattle.demands.proofs.Queued.{EventGranted}
 use Rattle.demands.specs.Sending.{Grant, granting, keepaliveBy}
+use Rattle.parts.specs.Event.{caseEvent}
+use Rattle.parts.specs.RingBuffer.{pushBack}
+use Rattle.parts.specs.declared.event.Event.{Event}
+use Rattle.parts.specs.declared.event.Event.the-variants.{SendHandshakeInitiation, SendKeepalive, ConnectionExpired}
+use Rattle.parts.specs.declared.ring_buffer.RingBuffer.{RingBuffer}
 use Rattle.sessions.specs.Session.{caseTime}
 use Rattle.sessions.specs.Sessions.{currentOf, expire, clear}
 use Rattle.sessions.specs.declared.session.Session.{Session}
@@ -23,15 +28,10 @@ use Rattle.sessions.specs.declared.sessions.Found.the-variants.{Got}
 use Rattle.sessions.specs.declared.sessions.Sessions.{Sessions}
 use Rattle.tunnel.proofs.Steps.{of-choice, of-found}
 use Rattle.tunnel.specs.Control.{Inner, withSessions, queueing}
-use Rattle.parts.specs.Event.{caseEvent}
 use Rattle.tunnel.specs.Messages.{initiate, initiating}
-use Rattle.parts.specs.RingBuffer.{pushBack}
 use Rattle.tunnel.specs.Transport.{caseDatagram, encryptKeepalive}
 use Rattle.tunnel.specs.Waking.{inner, clearAll, expireControl, scheduling, queueKeepalive, persistentKeepalive, keepalives, wakeIdle, wakeInProgress, expireCookie, wakeLater, wakeRest, wakeCurrent, wakeSessions, sendScheduled, wake}
 use Rattle.tunnel.specs.declared.control.Control.{Control}
-use Rattle.parts.specs.declared.event.Event.{Event}
-use Rattle.parts.specs.declared.event.Event.the-variants.{SendHandshakeInitiation, SendKeepalive, ConnectionExpired}
-use Rattle.parts.specs.declared.ring_buffer.RingBuffer.{RingBuffer}
 use Rattle.tunnel.specs.declared.transport.Encrypted.{Encrypted}
 
 -- an event that is no grant

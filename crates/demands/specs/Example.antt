@@ -8,9 +8,9 @@ use Rattle.demands.specs.Calls.Call.{start, send, receive, response, tim
 use Rattle.demands.specs.Made.{made, insertions}
 use Rattle.demands.specs.Receiving.{historyOf, Batch, receiving, Live}
 use Rattle.demands.specs.Sending.{wokenGrants, granting, grants, countersOf}
+use Rattle.parts.specs.declared.event.Event.the-variants.{SendKeepalive}
 use Rattle.sessions.specs.Store.{zeros}
 use Rattle.tunnel.specs.declared.answer.Answer.the-variants.{Polled, Report}
-use Rattle.parts.specs.declared.event.Event.the-variants.{SendKeepalive}
 
 -- index 256, no persistent keepalive, time 0
 unfoldable pub creation : Creation

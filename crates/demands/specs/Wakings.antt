@@ -7,6 +7,8 @@ use mathlib.Core.Logic.{_⊎_}
 use Prim.Native.Nat.{ℕ, _≤_, _<_}
 use lib.Dec.{ltb, eqb}
 use Rattle.base.specs.Choice.{choose}
+use Rattle.demands.specs.Calls.{Call, World, Reply, step, after, Creation, created, Good}
+use Rattle.demands.specs.Calls.Call.{start, restart, send, receive, look, initiation, response, cookie, timeout, event, deadline, missing}
 use Rattle.sessions.specs.Session.{timeLimit}
 use Rattle.sessions.specs.Sessions.{currentOf}
 use Rattle.sessions.specs.Store.{zeros}
@@ -23,8 +25,6 @@ use Rattle.tunnel.specs.declared.answer.Answer.{Answer}
 use Rattle.tunnel.specs.declared.answer.Answer.the-variants.{No, Deadline}
 use Rattle.tunnel.specs.declared.control.Control.{Control}
 use Rattle.tunnel.specs.declared.control.Out.{Out}
-use Rattle.demands.specs.Calls.{Call, World, Reply, step, after, Creation, created, Good}
-use Rattle.demands.specs.Calls.Call.{start, restart, send, receive, look, initiation, response, cookie, timeout, event, deadline, missing}
 
 -- a shared call, or an extra waking of the woken tunnel
 pub data Step : Type 0 where

@@ -2,21 +2,21 @@
 -- Assumes nothing.
 use mathlib.Core.Path.{_≡_}
 use Prim.Native.Nat.{ℕ}
-use Rattle.sessions.specs.declared.session.Session.{Session}
+use Rattle.parts.specs.Event.{caseEvent}
+use Rattle.parts.specs.Handshake.{caseState, caseCompleted, caseCookie}
+use Rattle.parts.specs.Timers.{caseInterval}
 use Rattle.parts.specs.declared.event.Event.{Event}
 use Rattle.parts.specs.declared.event.Event.the-variants.{Empty, SendHandshakeInitiation, SendKeepalive, Established, ConnectionExpired}
-use Rattle.parts.specs.declared.handshake.HandshakeState.{HandshakeState}
-use Rattle.parts.specs.declared.handshake.HandshakeState.the-variants.{None, InitSent, Expired}
-use Rattle.parts.specs.declared.handshake.Handshake.{Handshake}
 use Rattle.parts.specs.declared.handshake.Completed.{Completed}
 use Rattle.parts.specs.declared.handshake.Completed.the-variants.{Failed, Opened}
 use Rattle.parts.specs.declared.handshake.Cookie.{Cookie}
 use Rattle.parts.specs.declared.handshake.Cookie.the-variants.{Unusable, Stored}
+use Rattle.parts.specs.declared.handshake.Handshake.{Handshake}
+use Rattle.parts.specs.declared.handshake.HandshakeState.{HandshakeState}
+use Rattle.parts.specs.declared.handshake.HandshakeState.the-variants.{None, InitSent, Expired}
 use Rattle.parts.specs.declared.timers.Interval.{Interval}
 use Rattle.parts.specs.declared.timers.Interval.the-variants.{Off, Every}
-use Rattle.parts.specs.Event.{caseEvent}
-use Rattle.parts.specs.Handshake.{caseState, caseCompleted, caseCookie}
-use Rattle.parts.specs.Timers.{caseInterval}
+use Rattle.sessions.specs.declared.session.Session.{Session}
 
 module _ {A : Type 0} where
   pub is-off : (d : Interval) (v x : A) (f : ℕ → A) → d ≡ Off → v ≡ x → v ≡ caseInterval d x f

@@ -7,11 +7,11 @@ use native.Mathlib.Nat.{add-zero, add-suc}
 use native.Mathlib.Numerals.{add-one}
 use native.Mathlib.Omega.{arith}
 use Rattle.base.specs.Choice.{choose}
-use Rattle.sessions.specs.Sessions.{slotAt}
-use Rattle.sessions.specs.declared.sessions.Sessions.{Sessions}
 use Rattle.parts.specs.Check.{slotHolds, slotsHold, eventHolds, queueHolds}
 use Rattle.parts.specs.RingBuffer.{placeOf, eventAt, RingWithin, eventsFrom, queued}
 use Rattle.parts.specs.declared.ring_buffer.RingBuffer.{RingBuffer}
+use Rattle.sessions.specs.Sessions.{slotAt}
+use Rattle.sessions.specs.declared.sessions.Sessions.{Sessions}
 
 -- the first slots hold
 pub record SlotsYet (s : Sessions) (greatest slot : ℕ) : Type 0 where

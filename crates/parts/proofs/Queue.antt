@@ -11,11 +11,11 @@ use lib.ListN.{length, set, drop, length-set, length-append}
 use lib.Seq.{getD-set-same, getD-set-other}
 use borrow.Author.Tests.{eq-eqb, ne-eqb}
 use Rattle.base.specs.Choice.{choose}
+use Rattle.parts.specs.RingBuffer.{holding, placeOf, eventAt, emptyPlaces, newRing, storeAt, pushBack, popFront, eventsFrom, queued, newest, oldest, Ring, QueueOfNewest}
 use Rattle.parts.specs.declared.event.Event.{Event}
 use Rattle.parts.specs.declared.event.Event.the-variants.{Empty}
-use Rattle.parts.specs.declared.ring_buffer.Slot.{Slot}
 use Rattle.parts.specs.declared.ring_buffer.RingBuffer.{RingBuffer}
-use Rattle.parts.specs.RingBuffer.{holding, placeOf, eventAt, emptyPlaces, newRing, storeAt, pushBack, popFront, eventsFrom, queued, newest, oldest, Ring, QueueOfNewest}
+use Rattle.parts.specs.declared.ring_buffer.Slot.{Slot}
 
 both : {a b : Event} {x y : List Event} → a ≡ b → x ≡ y → a ∷ x ≡ b ∷ y
 both p q = cc

@@ -4,21 +4,21 @@ use mathlib.Core.Path.{_≡_}
 use mathlib.Core.Bool.{Bool, false}
 use Prim.Native.Nat.{ℕ, _+_, _-_, _*_, _≤_, _<_}
 use native.Mathlib.Omega.{arith}
-use mir.Syntax.{w64}
-use mir.Val.{Fits}
 use borrow.Author.Tests.{eq-eqb, ne-eqb}
 use Rattle.base.specs.Choice.{choose}
-use Rattle.sessions.specs.Session.{timeLimit}
-use Rattle.sessions.specs.declared.session.Time.{Time}
-use Rattle.sessions.specs.declared.session.Time.the-variants.{At}
+use Rattle.parts.specs.RingBuffer.{ringOf, placeOf, eventAt, storeAt, pushBack, popFront}
+use Rattle.parts.specs.Timers.{TimeWithin, IntervalWithin, withWaiting, withDataSent, getOr, tickLastHandshakeCompleted, tickLastHandshakeStarted, tickLastPacketReceived, tickLastPacketSent, tickLastDataPacketSent, tickResponse, tickCompleted, tickInitiation, cancelScheduledHandshake}
 use Rattle.parts.specs.declared.event.Event.{Event}
 use Rattle.parts.specs.declared.event.Event.the-variants.{Empty}
 use Rattle.parts.specs.declared.ring_buffer.RingBuffer.{RingBuffer}
 use Rattle.parts.specs.declared.timers.Interval.{Interval}
 use Rattle.parts.specs.declared.timers.Interval.the-variants.{Every}
 use Rattle.parts.specs.declared.timers.Timers.{Timers}
-use Rattle.parts.specs.RingBuffer.{ringOf, placeOf, eventAt, storeAt, pushBack, popFront}
-use Rattle.parts.specs.Timers.{TimeWithin, IntervalWithin, withWaiting, withDataSent, getOr, tickLastHandshakeCompleted, tickLastHandshakeStarted, tickLastPacketReceived, tickLastPacketSent, tickLastDataPacketSent, tickResponse, tickCompleted, tickInitiation, cancelScheduledHandshake}
+use Rattle.sessions.specs.Session.{timeLimit}
+use Rattle.sessions.specs.declared.session.Time.{Time}
+use Rattle.sessions.specs.declared.session.Time.the-variants.{At}
+use mir.Syntax.{w64}
+use mir.Val.{Fits}
 
 -- a present time within the limit, and at most an hour more, fits a word
 module _ (time : Time) (at : ℕ) (within : TimeWithin time timeLimit) (is : time ≡ At at) where

@@ -4,22 +4,22 @@ use mathlib.Core.List.{List, [], _∷_}
 use Prim.Native.Nat.{ℕ, zero, suc, _+_}
 use lib.Dec.{leb, eqb}
 use Rattle.base.specs.Choice.{choose}
-use Rattle.sessions.specs.Index.{slotIn}
-use Rattle.sessions.specs.Session.{caseTime}
-use Rattle.sessions.specs.Sessions.{slotAt}
-use Rattle.sessions.specs.declared.session.Time.{Time}
-use Rattle.sessions.specs.declared.session.Session.{Session}
-use Rattle.sessions.specs.declared.sessions.Sessions.{Sessions}
 use Rattle.parts.specs.Event.{caseEvent}
 use Rattle.parts.specs.Handshake.{caseState}
 use Rattle.parts.specs.RingBuffer.{queued}
 use Rattle.parts.specs.Timers.{maxJitter, greatestInterval, caseInterval}
 use Rattle.parts.specs.declared.event.Event.{Event}
-use Rattle.parts.specs.declared.handshake.HandshakeState.{HandshakeState}
 use Rattle.parts.specs.declared.handshake.Handshake.{Handshake}
+use Rattle.parts.specs.declared.handshake.HandshakeState.{HandshakeState}
 use Rattle.parts.specs.declared.ring_buffer.RingBuffer.{RingBuffer}
 use Rattle.parts.specs.declared.timers.Interval.{Interval}
 use Rattle.parts.specs.declared.timers.Timers.{Timers}
+use Rattle.sessions.specs.Index.{slotIn}
+use Rattle.sessions.specs.Session.{caseTime}
+use Rattle.sessions.specs.Sessions.{slotAt}
+use Rattle.sessions.specs.declared.session.Session.{Session}
+use Rattle.sessions.specs.declared.session.Time.{Time}
+use Rattle.sessions.specs.declared.sessions.Sessions.{Sessions}
 
 -- LIMIT
 abbrev pub limit : ℕ

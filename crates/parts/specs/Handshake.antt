@@ -1,23 +1,23 @@
 -- Handshake state and cookie tracking, after src/handshake.rs, without key material. An outcome of 0 is good.
 use mathlib.Core.Bool.{Bool, true, false}
+use mathlib.Core.Path.{_≡_}
 use Prim.Native.Nat.{ℕ, _+_, _≤_}
 use lib.Dec.{eqb}
-use mathlib.Core.Path.{_≡_}
 use Rattle.base.specs.Choice.{choose}
-use Rattle.sessions.specs.Session.{caseTime, newSession}
-use Rattle.sessions.specs.declared.session.Time.{Time}
-use Rattle.sessions.specs.declared.session.Time.the-variants.{Never, At}
-use Rattle.sessions.specs.declared.session.Role.the-variants.{Initiator, Responder}
-use Rattle.sessions.specs.declared.session.Session.{Session}
 use Rattle.parts.specs.Timers.{cookieExpirationTime, TimeWithin}
-use Rattle.parts.specs.declared.handshake.HandshakeState.{HandshakeState}
-use Rattle.parts.specs.declared.handshake.HandshakeState.the-variants.{None, InitSent, Expired}
-use Rattle.parts.specs.declared.handshake.Cookies.{Cookies}
-use Rattle.parts.specs.declared.handshake.Handshake.{Handshake}
 use Rattle.parts.specs.declared.handshake.Completed.{Completed}
 use Rattle.parts.specs.declared.handshake.Completed.the-variants.{Failed, Opened}
 use Rattle.parts.specs.declared.handshake.Cookie.{Cookie}
 use Rattle.parts.specs.declared.handshake.Cookie.the-variants.{Unusable, Stored}
+use Rattle.parts.specs.declared.handshake.Cookies.{Cookies}
+use Rattle.parts.specs.declared.handshake.Handshake.{Handshake}
+use Rattle.parts.specs.declared.handshake.HandshakeState.{HandshakeState}
+use Rattle.parts.specs.declared.handshake.HandshakeState.the-variants.{None, InitSent, Expired}
+use Rattle.sessions.specs.Session.{caseTime, newSession}
+use Rattle.sessions.specs.declared.session.Role.the-variants.{Initiator, Responder}
+use Rattle.sessions.specs.declared.session.Session.{Session}
+use Rattle.sessions.specs.declared.session.Time.{Time}
+use Rattle.sessions.specs.declared.session.Time.the-variants.{Never, At}
 
 module _ {A : Type 0} where
   -- one value for no handshake, one for each initiation sent, one for the expired state

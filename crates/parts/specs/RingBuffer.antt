@@ -8,9 +8,9 @@ use lib.ListN.{length, getD, set, drop, replicate}
 use Rattle.base.specs.Choice.{choose}
 use Rattle.parts.specs.declared.event.Event.{Event}
 use Rattle.parts.specs.declared.event.Event.the-variants.{Empty}
-use Rattle.parts.specs.declared.ring_buffer.Slot.{Slot}
-use Rattle.parts.specs.declared.ring_buffer.RingBuffer.{RingBuffer}
 use Rattle.parts.specs.declared.ring_buffer.Popped.{Popped}
+use Rattle.parts.specs.declared.ring_buffer.RingBuffer.{RingBuffer}
+use Rattle.parts.specs.declared.ring_buffer.Slot.{Slot}
 
 -- a place that holds this event
 abbrev pub holding : Event → Slot

@@ -3,12 +3,12 @@ use mathlib.Core.Path.{_≡_}
 use mathlib.Core.Bool.{Bool}
 use Prim.Native.Nat.{ℕ, _+_, _*_, _≤_}
 use Rattle.base.specs.Choice.{choose}
-use Rattle.sessions.specs.Session.{rejectAfterTime, keepaliveTimeout, rekeyTimeout, caseTime}
-use Rattle.sessions.specs.declared.session.Time.{Time}
-use Rattle.sessions.specs.declared.session.Time.the-variants.{Never, At}
 use Rattle.parts.specs.declared.timers.Interval.{Interval}
 use Rattle.parts.specs.declared.timers.Interval.the-variants.{Off, Every}
 use Rattle.parts.specs.declared.timers.Timers.{Timers}
+use Rattle.sessions.specs.Session.{rejectAfterTime, keepaliveTimeout, rekeyTimeout, caseTime}
+use Rattle.sessions.specs.declared.session.Time.{Time}
+use Rattle.sessions.specs.declared.session.Time.the-variants.{Never, At}
 
 -- 90 s
 abbrev pub rekeyAttemptTime : ℕ

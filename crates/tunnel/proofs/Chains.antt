@@ -4,6 +4,15 @@ use mathlib.Core.Path.{_≡_, _∙_}
 use mathlib.Core.Bool.{false}
 use Prim.Native.Nat.{ℕ, _+_}
 use Rattle.base.specs.Choice.{choose}
+use Rattle.parts.specs.Handshake.{newHandshake, inFlightInitiation}
+use Rattle.parts.specs.RingBuffer.{newRing, pushBack, popFront}
+use Rattle.parts.specs.Timers.{newTimers, rekeyTimeoutOf, scheduleHandshake, tickLastPacketSent, tickLastDataPacketSent}
+use Rattle.parts.specs.declared.event.Event.{Event}
+use Rattle.parts.specs.declared.handshake.Handshake.{Handshake}
+use Rattle.parts.specs.declared.ring_buffer.Popped.{Popped}
+use Rattle.parts.specs.declared.ring_buffer.RingBuffer.{RingBuffer}
+use Rattle.parts.specs.declared.timers.Interval.{Interval}
+use Rattle.parts.specs.declared.timers.Timers.{Timers}
 use Rattle.sessions.specs.Session.{earlier}
 use Rattle.sessions.specs.Sessions.{newSessions, put}
 use Rattle.sessions.specs.declared.session.Session.{Session}
@@ -13,21 +22,12 @@ use Rattle.sessions.specs.declared.sessions.Sessions.{Sessions}
 use Rattle.tunnel.specs.Arguments.{intervalOf}
 use Rattle.tunnel.specs.Control.{control, withSessions, withTimers, withEvents, outcome, newControl, queueing, pollEvent}
 use Rattle.tunnel.specs.Deadlines.{earliestExpiry, cookieDeadline, rejectDeadline, handshakeRekeyTimeout, rekeyOnSend, rekeyAfterMessages, rekeyOnReceive, responseDeadline, passiveDeadline, currentPersistentDeadline, commonDeadline, rekeyDeadline, keepaliveDeadline}
-use Rattle.parts.specs.Handshake.{newHandshake, inFlightInitiation}
-use Rattle.parts.specs.RingBuffer.{newRing, pushBack, popFront}
-use Rattle.parts.specs.Timers.{newTimers, rekeyTimeoutOf, scheduleHandshake, tickLastPacketSent, tickLastDataPacketSent}
 use Rattle.tunnel.specs.Transport.{beginEncapsulate}
 use Rattle.tunnel.specs.Tunnel.{answered, made, settled}
 use Rattle.tunnel.specs.Waking.{scheduling}
 use Rattle.tunnel.specs.declared.answer.Answer.the-variants.{Polled}
 use Rattle.tunnel.specs.declared.control.Control.{Control}
 use Rattle.tunnel.specs.declared.control.Out.{Out}
-use Rattle.parts.specs.declared.event.Event.{Event}
-use Rattle.parts.specs.declared.handshake.Handshake.{Handshake}
-use Rattle.parts.specs.declared.ring_buffer.Popped.{Popped}
-use Rattle.parts.specs.declared.ring_buffer.RingBuffer.{RingBuffer}
-use Rattle.parts.specs.declared.timers.Interval.{Interval}
-use Rattle.parts.specs.declared.timers.Timers.{Timers}
 use Rattle.tunnel.specs.declared.tunnel.Tunnel.{Tunnel}
 
 -- a creation

@@ -4,12 +4,12 @@ use mathlib.Core.Path.{_≡_}
 use mathlib.Core.Bool.{Bool, true, false}
 use Prim.Native.Nat.{ℕ}
 use Rattle.base.specs.Choice.{choose}
+use Rattle.parts.specs.RingBuffer.{ringIsEmpty}
 use Rattle.sessions.specs.Session.{caseTime, earlier}
 use Rattle.sessions.specs.declared.session.Time.{Time}
 use Rattle.sessions.specs.declared.session.Time.the-variants.{Never, At}
 use Rattle.tunnel.specs.Control.{expiredControl}
 use Rattle.tunnel.specs.Deadlines.{scheduledHandshake, attemptDeadline, handshakeRekeyTimeout, commonDeadline, rekeyDeadline, keepaliveDeadline, nextDeadline, unscheduledDeadline, pollTimeout, notBefore}
-use Rattle.parts.specs.RingBuffer.{ringIsEmpty}
 use Rattle.tunnel.specs.declared.control.Control.{Control}
 
 -- the earliest deadline while no handshake is scheduled, without and with an initiation that awaits a response

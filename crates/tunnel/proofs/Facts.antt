@@ -9,32 +9,32 @@ use native.Mathlib.Decide.{ℕ-discrete}
 use lib.Dec.{leb, eqb}
 use borrow.Author.Tests.{leb-true, le-leb, eqb-true, eq-eqb, ne-eqb}
 use Rattle.base.specs.Choice.{choose}
-use Rattle.sessions.specs.Index.{slotIn}
-use Rattle.sessions.specs.Session.{timeLimit, caseTime}
-use Rattle.sessions.specs.Sessions.{slotAt}
-use Rattle.sessions.specs.declared.session.Time.{Time}
-use Rattle.sessions.specs.declared.session.Time.the-variants.{Never, At}
-use Rattle.sessions.specs.declared.session.Session.{Session}
-use Rattle.sessions.specs.declared.sessions.Sessions.{Sessions}
-use Rattle.tunnel.specs.declared.control.Control.{Control}
-use Rattle.parts.specs.declared.event.Event.{Event}
-use Rattle.parts.specs.declared.event.Event.the-variants.{Empty, SendHandshakeInitiation, SendKeepalive, Established, ConnectionExpired}
-use Rattle.parts.specs.declared.handshake.HandshakeState.{HandshakeState}
-use Rattle.parts.specs.declared.handshake.HandshakeState.the-variants.{None, InitSent, Expired}
-use Rattle.parts.specs.declared.handshake.Handshake.{Handshake}
-use Rattle.parts.specs.declared.ring_buffer.RingBuffer.{RingBuffer}
-use Rattle.parts.specs.declared.timers.Interval.{Interval}
-use Rattle.parts.specs.declared.timers.Interval.the-variants.{Off, Every}
-use Rattle.parts.specs.declared.timers.Timers.{Timers}
-use Rattle.tunnel.specs.declared.tunnel.Tunnel.{Tunnel}
+use Rattle.parts.specs.Check.{limit, _and_, timeHolds, stateHolds, inRange, intervalHolds, bothAtMost, eventHolds, slotHolds, slotsHold, queueHolds, eventsHold, handshakeHolds, packetTimersHold, dataTimersHold, fieldsHold, timersHold}
 use Rattle.parts.specs.Event.{caseEvent}
 use Rattle.parts.specs.Handshake.{caseState, SentWithin, HandshakeWithin}
 use Rattle.parts.specs.RingBuffer.{queued}
 use Rattle.parts.specs.Timers.{maxJitter, caseInterval, TimeWithin, IntervalWithin, TimersWithin}
-use Rattle.parts.specs.Check.{limit, _and_, timeHolds, stateHolds, inRange, intervalHolds, bothAtMost, eventHolds, slotHolds, slotsHold, queueHolds, eventsHold, handshakeHolds, packetTimersHold, dataTimersHold, fieldsHold, timersHold}
+use Rattle.parts.specs.declared.event.Event.{Event}
+use Rattle.parts.specs.declared.event.Event.the-variants.{Empty, SendHandshakeInitiation, SendKeepalive, Established, ConnectionExpired}
+use Rattle.parts.specs.declared.handshake.Handshake.{Handshake}
+use Rattle.parts.specs.declared.handshake.HandshakeState.{HandshakeState}
+use Rattle.parts.specs.declared.handshake.HandshakeState.the-variants.{None, InitSent, Expired}
+use Rattle.parts.specs.declared.ring_buffer.RingBuffer.{RingBuffer}
+use Rattle.parts.specs.declared.timers.Interval.{Interval}
+use Rattle.parts.specs.declared.timers.Interval.the-variants.{Off, Every}
+use Rattle.parts.specs.declared.timers.Timers.{Timers}
+use Rattle.sessions.specs.Index.{slotIn}
+use Rattle.sessions.specs.Session.{timeLimit, caseTime}
+use Rattle.sessions.specs.Sessions.{slotAt}
+use Rattle.sessions.specs.declared.session.Session.{Session}
+use Rattle.sessions.specs.declared.session.Time.{Time}
+use Rattle.sessions.specs.declared.session.Time.the-variants.{Never, At}
+use Rattle.sessions.specs.declared.sessions.Sessions.{Sessions}
 use Rattle.tunnel.specs.Check.{storedHolds, controlHolds, undamaged}
 use Rattle.tunnel.specs.Facts.{SlotWithin, SessionsWithin, EventWithin, EventsWithin, QueueWithin, ControlWithin, Undamaged, FactsOfUndamaged}
 use Rattle.tunnel.specs.Facts.EventsWithin.{none, more}
+use Rattle.tunnel.specs.declared.control.Control.{Control}
+use Rattle.tunnel.specs.declared.tunnel.Tunnel.{Tunnel}
 
 -- the two parts of a test that is true
 first : (a b : Bool) → (a and b) ≡ true → a ≡ true

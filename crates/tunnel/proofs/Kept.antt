@@ -7,21 +7,21 @@ use Prim.Native.Nat.{ℕ, zero, suc, _+_, _-_, _≤_}
 use native.Mathlib.Omega.{arith}
 use lib.ListN.{length, drop}
 use Rattle.base.specs.Choice.{choose}
-use Rattle.sessions.specs.Session.{caseTime}
-use Rattle.sessions.specs.declared.session.Time.{Time}
-use Rattle.sessions.specs.declared.session.Time.the-variants.{Never, At}
-use Rattle.parts.specs.declared.event.Event.{Event}
-use Rattle.parts.specs.declared.handshake.HandshakeState.the-variants.{None, InitSent, Expired}
-use Rattle.parts.specs.declared.handshake.Handshake.{Handshake}
-use Rattle.parts.specs.declared.ring_buffer.RingBuffer.{RingBuffer}
-use Rattle.parts.specs.declared.timers.Interval.{Interval}
-use Rattle.parts.specs.declared.timers.Timers.{Timers}
+use Rattle.parts.proofs.Queue.{queue-of-newest}
 use Rattle.parts.specs.Handshake.{SentWithin, HandshakeWithin, newHandshake, setExpired, clearCookie, appendMac1AndMac2, initiateHandshake, withStates, withCookies, tracking}
 use Rattle.parts.specs.RingBuffer.{newRing, pushBack, popFront, newest, Ring}
 use Rattle.parts.specs.Timers.{maxJitter, TimeWithin, IntervalWithin, TimersWithin, newTimers, clearTimers, getOr, tickLastHandshakeCompleted, tickLastHandshakeStarted, tickLastPacketReceived, tickLastPacketSent, tickLastDataPacketReceived, tickLastDataPacketSent, tickPersistentKeepalive, scheduleHandshake, cancelScheduledHandshake, consumePassiveKeepalive, tickResponse, tickCompleted, tickInitiation}
+use Rattle.parts.specs.declared.event.Event.{Event}
+use Rattle.parts.specs.declared.handshake.Handshake.{Handshake}
+use Rattle.parts.specs.declared.handshake.HandshakeState.the-variants.{None, InitSent, Expired}
+use Rattle.parts.specs.declared.ring_buffer.RingBuffer.{RingBuffer}
+use Rattle.parts.specs.declared.timers.Interval.{Interval}
+use Rattle.parts.specs.declared.timers.Timers.{Timers}
+use Rattle.sessions.specs.Session.{caseTime}
+use Rattle.sessions.specs.declared.session.Time.{Time}
+use Rattle.sessions.specs.declared.session.Time.the-variants.{Never, At}
 use Rattle.tunnel.specs.Facts.{EventWithin, EventsWithin, QueueWithin}
 use Rattle.tunnel.specs.Facts.EventsWithin.{none, more}
-use Rattle.parts.proofs.Queue.{queue-of-newest}
 
 -- no time, and a time within the bound
 pub never-within : (most : ℕ) → TimeWithin Never most

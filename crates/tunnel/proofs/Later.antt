@@ -7,31 +7,31 @@ use Prim.Native.Nat.{ℕ, _+_, _≤_, _<_}
 use native.Mathlib.Omega.{arith}
 use lib.Dec.{eqb}
 use Rattle.base.specs.Choice.{choose}
+use Rattle.parts.specs.Handshake.{caseState, SentWithin, HandshakeWithin, inFlightInitiation}
+use Rattle.parts.specs.Timers.{maxJitter, TimeWithin, TimersWithin}
+use Rattle.parts.specs.declared.event.Event.{Event}
+use Rattle.parts.specs.declared.handshake.Handshake.{Handshake}
+use Rattle.parts.specs.declared.handshake.HandshakeState.{HandshakeState}
+use Rattle.parts.specs.declared.handshake.HandshakeState.the-variants.{None, InitSent, Expired}
+use Rattle.parts.specs.declared.ring_buffer.RingBuffer.{RingBuffer}
+use Rattle.parts.specs.declared.timers.Timers.{Timers}
 use Rattle.sessions.specs.Index.{slotIn}
 use Rattle.sessions.specs.Session.{timeLimit}
 use Rattle.sessions.specs.Sessions.{caseFound, caseSelected, slotAt, TimesWithin, inSlotOf, get, currentOf}
+use Rattle.sessions.specs.declared.session.Session.{Session}
 use Rattle.sessions.specs.declared.session.Time.{Time}
 use Rattle.sessions.specs.declared.session.Time.the-variants.{Never, At}
-use Rattle.sessions.specs.declared.session.Session.{Session}
 use Rattle.sessions.specs.declared.sessions.Found.{Found}
 use Rattle.sessions.specs.declared.sessions.Found.the-variants.{Nothing, Got}
 use Rattle.sessions.specs.declared.sessions.Selected.{Selected}
 use Rattle.sessions.specs.declared.sessions.Selected.the-variants.{Unset, Index}
 use Rattle.sessions.specs.declared.sessions.Sessions.{Sessions}
-use Rattle.tunnel.specs.declared.control.Control.{Control}
-use Rattle.parts.specs.declared.event.Event.{Event}
-use Rattle.parts.specs.declared.handshake.HandshakeState.{HandshakeState}
-use Rattle.parts.specs.declared.handshake.HandshakeState.the-variants.{None, InitSent, Expired}
-use Rattle.parts.specs.declared.handshake.Handshake.{Handshake}
-use Rattle.parts.specs.declared.ring_buffer.RingBuffer.{RingBuffer}
-use Rattle.parts.specs.declared.timers.Timers.{Timers}
-use Rattle.tunnel.specs.declared.tunnel.Tunnel.{Tunnel}
+use Rattle.tunnel.proofs.Facts.{undamaged-facts}
 use Rattle.tunnel.specs.Check.{undamaged}
-use Rattle.parts.specs.Handshake.{caseState, SentWithin, HandshakeWithin, inFlightInitiation}
-use Rattle.parts.specs.Timers.{maxJitter, TimeWithin, TimersWithin}
 use Rattle.tunnel.specs.Facts.{SlotWithin, SessionsWithin, EventWithin, EventsWithin, QueueWithin, ControlWithin, Undamaged}
 use Rattle.tunnel.specs.Facts.EventsWithin.{none, more}
-use Rattle.tunnel.proofs.Facts.{undamaged-facts}
+use Rattle.tunnel.specs.declared.control.Control.{Control}
+use Rattle.tunnel.specs.declared.tunnel.Tunnel.{Tunnel}
 
 module _ (a b : ℕ) (l : a ≤ b) where
   pub time-later : (time : Time) → TimeWithin time a → TimeWithin time b

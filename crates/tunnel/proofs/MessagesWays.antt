@@ -5,6 +5,14 @@ use mathlib.Core.Bool.{Bool, true, false}
 use mathlib.Core.List.{List}
 use Prim.Native.Nat.{ℕ}
 use Rattle.base.specs.Choice.{choose}
+use Rattle.parts.specs.Handshake.{caseCompleted, caseCookie, isInProgress, initiateHandshake, receiveHandshakeInitialization, receiveHandshakeResponse, receiveCookieReply}
+use Rattle.parts.specs.Timers.{getOr, tickCompleted, tickInitiation, tickResponse}
+use Rattle.parts.specs.declared.handshake.Completed.{Completed}
+use Rattle.parts.specs.declared.handshake.Completed.the-variants.{Failed, Opened}
+use Rattle.parts.specs.declared.handshake.Cookie.{Cookie}
+use Rattle.parts.specs.declared.handshake.Cookie.the-variants.{Unusable, Stored}
+use Rattle.parts.specs.declared.handshake.Handshake.{Handshake}
+use Rattle.parts.specs.declared.timers.Timers.{Timers}
 use Rattle.sessions.specs.Sessions.{nextIndex, insert, setCurrent}
 use Rattle.sessions.specs.Store.{Leaves}
 use Rattle.sessions.specs.declared.session.Session.{Session}
@@ -12,20 +20,12 @@ use Rattle.sessions.specs.declared.session.Time.the-variants.{At}
 use Rattle.sessions.specs.declared.sessions.Allocated.{Allocated}
 use Rattle.sessions.specs.declared.sessions.Sessions.{Sessions}
 use Rattle.tunnel.specs.Control.{withHandshake, withSessions, withTimers, withFirstInitiationAt, refuse, done, expiredControl}
-use Rattle.parts.specs.Handshake.{caseCompleted, caseCookie, isInProgress, initiateHandshake, receiveHandshakeInitialization, receiveHandshakeResponse, receiveCookieReply}
 use Rattle.tunnel.specs.Messages.{responding, respond, handleHandshakeInitiation, confirming, establish, complete, handleHandshakeResponse, handleCookieReply, initiating, initiate, restartHandshake, startHandshake}
-use Rattle.parts.specs.Timers.{getOr, tickCompleted, tickInitiation, tickResponse}
 use Rattle.tunnel.specs.Transport.{caseDatagram, confirmFirstSession, encryptKeepalive}
 use Rattle.tunnel.specs.declared.answer.Answer.the-variants.{Done, NoAnswer, Initiation, Response, Keepalive}
 use Rattle.tunnel.specs.declared.control.Control.{Control}
 use Rattle.tunnel.specs.declared.control.Out.{Out}
-use Rattle.parts.specs.declared.handshake.Completed.{Completed}
-use Rattle.parts.specs.declared.handshake.Completed.the-variants.{Failed, Opened}
-use Rattle.parts.specs.declared.handshake.Cookie.{Cookie}
-use Rattle.parts.specs.declared.handshake.Cookie.the-variants.{Unusable, Stored}
-use Rattle.parts.specs.declared.handshake.Handshake.{Handshake}
 use Rattle.tunnel.specs.declared.messages.Initiated.{Initiated}
-use Rattle.parts.specs.declared.timers.Timers.{Timers}
 use Rattle.tunnel.specs.declared.transport.Datagram.the-variants.{Skipped, Sent}
 use Rattle.tunnel.specs.declared.transport.Encrypted.{Encrypted}
 

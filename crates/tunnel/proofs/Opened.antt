@@ -5,9 +5,6 @@ use mathlib.Core.Bool.{Bool, true, false}
 use Prim.Native.Nat.{ℕ}
 use native.Mathlib.Omega.{arith}
 use Rattle.base.specs.Choice.{choose}
-use Rattle.sessions.specs.Session.{newSession}
-use Rattle.sessions.specs.declared.session.Role.the-variants.{Initiator, Responder}
-use Rattle.sessions.specs.declared.session.Session.{Session}
 use Rattle.parts.specs.Handshake.{caseCompleted, caseCookie, withStates, withCookies, tracking, appendMac1AndMac2, receiveHandshakeInitialization, receiveHandshakeResponse, receiveCookieReply}
 use Rattle.parts.specs.declared.handshake.Completed.{Completed}
 use Rattle.parts.specs.declared.handshake.Completed.the-variants.{Failed, Opened}
@@ -15,6 +12,9 @@ use Rattle.parts.specs.declared.handshake.Cookie.{Cookie}
 use Rattle.parts.specs.declared.handshake.Cookie.the-variants.{Unusable, Stored}
 use Rattle.parts.specs.declared.handshake.Handshake.{Handshake}
 use Rattle.parts.specs.declared.handshake.HandshakeState.the-variants.{None}
+use Rattle.sessions.specs.Session.{newSession}
+use Rattle.sessions.specs.declared.session.Role.the-variants.{Initiator, Responder}
+use Rattle.sessions.specs.declared.session.Session.{Session}
 use Rattle.sessions.specs.declared.session.Time.the-variants.{At}
 
 -- what holds of every case holds of the choice by cases

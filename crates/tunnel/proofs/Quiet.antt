@@ -8,8 +8,11 @@ use Prim.Native.Nat.{ℕ, zero, suc, _≤_, _<_}
 use native.Mathlib.Omega.{arith}
 use lib.Dec.{ltb, leb}
 use borrow.Author.Tests.{ltb-true, ltb-false, leb-false, lt-leb}
-use Rattle.base.specs.Choice.{choose}
 use Rattle.base.proofs.Choice.{no-flag}
+use Rattle.base.specs.Choice.{choose}
+use Rattle.parts.specs.Timers.{caseInterval, nextPersistentKeepalive}
+use Rattle.parts.specs.declared.timers.Interval.{Interval}
+use Rattle.parts.specs.declared.timers.Interval.the-variants.{Off}
 use Rattle.sessions.specs.Session.{caseTime, dueBy, least, earlier, expiresAt, expiredAt}
 use Rattle.sessions.specs.Sessions.{caseFound, currentOf, slotAt, expiredSlot, Expiring, expireSlot, expireFirst, expire, slotExpiry, firstExpiry, nextExpiry}
 use Rattle.sessions.specs.Store.{whole}
@@ -19,18 +22,15 @@ use Rattle.sessions.specs.declared.session.Time.the-variants.{Never, At}
 use Rattle.sessions.specs.declared.sessions.Found.{Found}
 use Rattle.sessions.specs.declared.sessions.Found.the-variants.{Nothing, Got}
 use Rattle.sessions.specs.declared.sessions.Sessions.{Sessions}
+use Rattle.tunnel.proofs.Steps.{of-choice}
 use Rattle.tunnel.specs.Check.{undamaged}
 use Rattle.tunnel.specs.Deadlines.{scheduledHandshake, earliestExpiry, cookieDeadline, rejectDeadline, attemptDeadline, handshakeRekeyTimeout, rekeyOnSend, rekeyAfterMessages, rekeyOnReceive, responseDeadline, passiveDeadline, persistentDeadline, currentPersistentDeadline, commonDeadline, rekeyDeadline, keepaliveDeadline, unscheduledDeadline, nextDeadline, pollTimeout}
-use Rattle.parts.specs.Timers.{caseInterval, nextPersistentKeepalive}
+use Rattle.tunnel.specs.Quiet.{Early, QuietLaw, DeadlineLaw}
 use Rattle.tunnel.specs.Tunnel.{timelessGate, timeless, settled, callDeadline}
 use Rattle.tunnel.specs.Waking.{inner, persistentKeepalive, keepalives, rekeyDue, wakeIdle, wakeInProgress, expireCookie, wakeLater, wakeRest, wakeCurrent, wakeSessions, wake}
 use Rattle.tunnel.specs.declared.answer.Answer.the-variants.{Deadline}
 use Rattle.tunnel.specs.declared.control.Control.{Control}
-use Rattle.parts.specs.declared.timers.Interval.{Interval}
-use Rattle.parts.specs.declared.timers.Interval.the-variants.{Off}
 use Rattle.tunnel.specs.declared.tunnel.Tunnel.{Tunnel}
-use Rattle.tunnel.proofs.Steps.{of-choice}
-use Rattle.tunnel.specs.Quiet.{Early, QuietLaw, DeadlineLaw}
 
 -- a value picked by a test that fails
 module _ {A : Type 0} where

@@ -10,6 +10,7 @@ use lib.ListN.{length}
 use lib.Seq.{getD-set-same}
 use borrow.Author.Tests.{le-leb, lt-leb, le-ltb, eqb-true, eq-eqb}
 use Rattle.base.specs.Choice.{choose}
+use Rattle.parts.specs.declared.handshake.Handshake.{Handshake}
 use Rattle.sessions.specs.Session.{caseReserved, newSession, withId, withCounter, reserveCounters, expiredAt, shouldUseAt, sendingCounterExhausted, emptySession, rejectAfterTime, keepaliveTimeout}
 use Rattle.sessions.specs.Sessions.{caseFound, caseSelected, inSlotOf, get, put, currentOf, inserting, insert, isIndex, select, setCurrent, usable, sendingSession}
 use Rattle.sessions.specs.declared.session.Reserved.{Reserved}
@@ -21,18 +22,17 @@ use Rattle.sessions.specs.declared.sessions.Found.the-variants.{Nothing, Got}
 use Rattle.sessions.specs.declared.sessions.Selected.{Selected}
 use Rattle.sessions.specs.declared.sessions.Selected.the-variants.{Unset, Index}
 use Rattle.sessions.specs.declared.sessions.Sessions.{Sessions}
+use Rattle.tunnel.proofs.Later.{current-established}
+use Rattle.tunnel.proofs.SoundSteps.{known-choice, known-found, SoundSessions, SoundControl, new-within, insert-sound, its-sessions}
+use Rattle.tunnel.proofs.Steps.{of-choice}
 use Rattle.tunnel.specs.Control.{withHandshake, withSessions, done, queueing}
 use Rattle.tunnel.specs.Messages.{confirming, establish, complete}
 use Rattle.tunnel.specs.Transport.{caseDatagram, encryptKeepalive, confirmFirstSession}
 use Rattle.tunnel.specs.declared.answer.Answer.the-variants.{Keepalive}
 use Rattle.tunnel.specs.declared.control.Control.{Control}
-use Rattle.parts.specs.declared.handshake.Handshake.{Handshake}
 use Rattle.tunnel.specs.declared.transport.Datagram.{Datagram}
 use Rattle.tunnel.specs.declared.transport.Datagram.the-variants.{Sent}
 use Rattle.tunnel.specs.declared.transport.Encrypted.{Encrypted}
-use Rattle.tunnel.proofs.Later.{current-established}
-use Rattle.tunnel.proofs.Steps.{of-choice}
-use Rattle.tunnel.proofs.SoundSteps.{known-choice, known-found, SoundSessions, SoundControl, new-within, insert-sound, its-sessions}
 
 -- the session of a completed handshake, at whose time no stored one is newer, is current, and has its first counter to send
 found-or : {A : Type 0} (found : Found) (x : Session) (y : A) (f : Session → A) → found ≡ Got x → caseFound found y f ≡ f x
@@ -114,7 +114,7 @@ confirmed-sessions : (c : Control) (start now : ℕ) → confirmFirstSession c s
 unfolding confirmFirstSession queueing
 confirmed-sessions c start now = of-choice (λ (y : Control). y .sessions ≡ c .sessions) _ _ _ refl refl
 
-confirming-sessions : (c : Control) (local now : ℕ) → confirming c local now .sessions ≡ setCurrent (c .sessions) local
+pub confirming-sessions : (c : Control) (local now : ℕ) → confirming c local now .sessions ≡ setCurrent (c .sessions) local
 unfolding confirming
 confirming-sessions c local now = confirmed-sessions _ _ now
 

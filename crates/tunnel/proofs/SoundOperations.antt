@@ -6,6 +6,14 @@ use mathlib.Core.List.{List}
 use Prim.Native.Nat.{ℕ, _≤_}
 use native.Mathlib.Omega.{arith}
 use lib.ListN.{length}
+use Rattle.parts.proofs.Queue.{queue-of-newest}
+use Rattle.parts.specs.Handshake.{withStates, appendMac1AndMac2, receiveCookieReply}
+use Rattle.parts.specs.RingBuffer.{popFront}
+use Rattle.parts.specs.Timers.{maxJitter}
+use Rattle.parts.specs.declared.event.Event.the-variants.{Established}
+use Rattle.parts.specs.declared.handshake.Cookie.the-variants.{Stored}
+use Rattle.parts.specs.declared.handshake.Handshake.{Handshake}
+use Rattle.parts.specs.declared.handshake.HandshakeState.the-variants.{None}
 use Rattle.sessions.specs.Batch.{started}
 use Rattle.sessions.specs.Session.{newSession, reserveCounters, preparePacketData}
 use Rattle.sessions.specs.Sessions.{caseMissing, sendingSession}
@@ -14,28 +22,20 @@ use Rattle.sessions.specs.declared.session.Role.the-variants.{Initiator, Respon
 use Rattle.sessions.specs.declared.session.Session.{Session}
 use Rattle.sessions.specs.declared.sessions.Missing.{Missing}
 use Rattle.sessions.specs.declared.sessions.Missing.the-variants.{Refused, Count}
+use Rattle.tunnel.proofs.Kept.{get-or-within, on-sent, on-received, on-data-sent, on-data-received, on-response, on-done, on-append, on-both-none, on-cookie, on-pop}
+use Rattle.tunnel.proofs.Opened.{known-completed, known-cookie, initiation-opened, response-opened, cookie-stored}
+use Rattle.tunnel.proofs.Responses.{response-good}
+use Rattle.tunnel.proofs.SoundSteps.{known-found, known-reserved, SoundControl, OwnSlot, counted-within, new-within, sending-within, put-sound, insert-sound, current-sound, index-sound, sound-later, its-sessions, sound-timers, sound-handshake, sound-sessions, sound-queued, SoundReceived, receive-sound}
+use Rattle.tunnel.proofs.SoundWaking.{sound-encrypted, sound-initiated, sound-wake}
+use Rattle.tunnel.proofs.Steps.{of-choice, of-found}
 use Rattle.tunnel.specs.Control.{Turn, withEvents, withEstablished, withHandshake, withSessions, outcome, refuse, done, pollEvent, missingReport}
 use Rattle.tunnel.specs.Facts.{EventWithin}
-use Rattle.parts.specs.Handshake.{withStates, appendMac1AndMac2, receiveCookieReply}
 use Rattle.tunnel.specs.Messages.{responding, respond, handleHandshakeInitiation, confirming, handleHandshakeResponse, handleCookieReply, restartHandshake, startHandshake}
-use Rattle.parts.specs.RingBuffer.{popFront}
-use Rattle.parts.specs.Timers.{maxJitter}
 use Rattle.tunnel.specs.Transport.{Batched, beginEncapsulate, finishEncapsulate, grant, send, confirmFirstSession, selecting, accept, batched, committed, commitDecapsulate, beginDecapsulate}
 use Rattle.tunnel.specs.Waking.{handleTimeout}
 use Rattle.tunnel.specs.declared.answer.Answer.{Answer}
 use Rattle.tunnel.specs.declared.control.Control.{Control}
 use Rattle.tunnel.specs.declared.control.Out.{Out}
-use Rattle.parts.specs.declared.event.Event.the-variants.{Established}
-use Rattle.parts.specs.declared.handshake.Cookie.the-variants.{Stored}
-use Rattle.parts.specs.declared.handshake.Handshake.{Handshake}
-use Rattle.parts.specs.declared.handshake.HandshakeState.the-variants.{None}
-use Rattle.tunnel.proofs.Kept.{get-or-within, on-sent, on-received, on-data-sent, on-data-received, on-response, on-done, on-append, on-both-none, on-cookie, on-pop}
-use Rattle.parts.proofs.Queue.{queue-of-newest}
-use Rattle.tunnel.proofs.Steps.{of-choice, of-found}
-use Rattle.tunnel.proofs.Responses.{response-good}
-use Rattle.tunnel.proofs.SoundSteps.{known-found, known-reserved, SoundControl, OwnSlot, counted-within, new-within, sending-within, put-sound, insert-sound, current-sound, index-sound, sound-later, its-sessions, sound-timers, sound-handshake, sound-sessions, sound-queued, SoundReceived, receive-sound}
-use Rattle.tunnel.proofs.SoundWaking.{sound-encrypted, sound-initiated, sound-wake}
-use Rattle.tunnel.proofs.Opened.{known-completed, known-cookie, initiation-opened, response-opened, cookie-stored}
 
 -- what an operation at a time hands back: its control is sound below that time where it raises the greatest time, else below the old one
 pub record SoundOut (out : Out) (old now : ℕ) : Type 0 where

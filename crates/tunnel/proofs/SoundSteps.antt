@@ -9,9 +9,20 @@ use lib.Dec.{leb}
 use lib.ListN.{length, getD, set, length-set, length-replicate}
 use borrow.Author.Tests.{leb-true}
 use Rattle.base.specs.Choice.{choose}
+use Rattle.parts.proofs.Queue.{queue-of-newest}
+use Rattle.parts.specs.Check.{limit}
+use Rattle.parts.specs.Handshake.{HandshakeWithin}
+use Rattle.parts.specs.Timers.{TimersWithin}
+use Rattle.parts.specs.declared.event.Event.{Event}
+use Rattle.parts.specs.declared.handshake.Handshake.{Handshake}
+use Rattle.parts.specs.declared.timers.Timers.{Timers}
+use Rattle.sessions.proofs.Received.{receiving-got, batch-within}
+use Rattle.sessions.specs.Batch.{started, batchOf, withProgress, receivingSession, Outcome, refused, answered, commit, receive}
 use Rattle.sessions.specs.Index.{slotIn}
 use Rattle.sessions.specs.Session.{caseRole, caseReserved, newSession, withCounter, withId, reserveCounters, expiredAt, shouldUseAt, sendingCounterExhausted, emptySession}
 use Rattle.sessions.specs.Sessions.{caseFound, Held, emptySlots, put, currentOf, inserting, insert, select, setCurrent, nextIndex, usable, sendingSession, clear, emptied, expire, get}
+use Rattle.sessions.specs.declared.batch.Progress.{Progress}
+use Rattle.sessions.specs.declared.batch.Received.{Received}
 use Rattle.sessions.specs.declared.session.Reserved.{Reserved}
 use Rattle.sessions.specs.declared.session.Reserved.the-variants.{TooFew, First}
 use Rattle.sessions.specs.declared.session.Role.{Role}
@@ -20,22 +31,11 @@ use Rattle.sessions.specs.declared.session.Session.{Session}
 use Rattle.sessions.specs.declared.sessions.Found.{Found}
 use Rattle.sessions.specs.declared.sessions.Found.the-variants.{Nothing, Got}
 use Rattle.sessions.specs.declared.sessions.Sessions.{Sessions}
-use Rattle.parts.specs.Check.{limit}
+use Rattle.tunnel.proofs.Later.{current-within, control-later, get-within}
+use Rattle.tunnel.proofs.Steps.{of-choice, of-found, with-timers, with-handshake, with-sessions, of-expire, on-expire, on-clear-sessions, queued-within}
 use Rattle.tunnel.specs.Control.{withHandshake, withSessions, withTimers, queueing}
 use Rattle.tunnel.specs.Facts.{SlotWithin, SessionsWithin, EventWithin, ControlWithin}
-use Rattle.parts.specs.Handshake.{HandshakeWithin}
-use Rattle.parts.specs.Timers.{TimersWithin}
 use Rattle.tunnel.specs.declared.control.Control.{Control}
-use Rattle.parts.specs.declared.event.Event.{Event}
-use Rattle.parts.specs.declared.handshake.Handshake.{Handshake}
-use Rattle.parts.specs.declared.timers.Timers.{Timers}
-use Rattle.tunnel.proofs.Later.{current-within, control-later, get-within}
-use Rattle.parts.proofs.Queue.{queue-of-newest}
-use Rattle.tunnel.proofs.Steps.{of-choice, of-found, with-timers, with-handshake, with-sessions, of-expire, on-expire, on-clear-sessions, queued-within}
-use Rattle.sessions.specs.Batch.{started, batchOf, withProgress, receivingSession, Outcome, refused, answered, commit, receive}
-use Rattle.sessions.specs.declared.batch.Progress.{Progress}
-use Rattle.sessions.specs.declared.batch.Received.{Received}
-use Rattle.sessions.proofs.Received.{receiving-got, batch-within}
 
 -- what holds of every case holds of the choice by cases, with the case known
 module _ {A : Type 0} (P : A → Type 0) where

@@ -5,23 +5,23 @@ use mathlib.Core.Bool.{Bool, true, false}
 use mathlib.Core.List.{List}
 use Prim.Native.Nat.{ℕ, _≤_}
 use native.Mathlib.Omega.{arith}
+use Rattle.parts.specs.Handshake.{setExpired}
+use Rattle.parts.specs.Timers.{maxJitter, tickLastPacketSent}
+use Rattle.parts.specs.declared.event.Event.the-variants.{SendHandshakeInitiation, SendKeepalive, ConnectionExpired}
 use Rattle.sessions.specs.Session.{reserveCounters}
 use Rattle.sessions.specs.Sessions.{put, sendingSession}
-use Rattle.parts.specs.Handshake.{setExpired}
+use Rattle.tunnel.proofs.Facts.{no-times}
+use Rattle.tunnel.proofs.Kept.{first-within, on-clear, on-expired, on-clear-cookie, on-sent, on-kept, on-schedule, on-cancel, on-consume, on-initiate, on-initiation}
+use Rattle.tunnel.proofs.SoundSteps.{known-found, known-reserved, SoundControl, counted-within, sending-within, put-sound, index-sound, expire-sound, clear-sound, its-sessions, sound-timers, sound-handshake, sound-sessions, sound-queued}
+use Rattle.tunnel.proofs.Steps.{of-choice}
+use Rattle.tunnel.proofs.Wakings.{WakingKeeps, of-wake}
 use Rattle.tunnel.specs.Messages.{initiate, initiating}
-use Rattle.parts.specs.Timers.{maxJitter, tickLastPacketSent}
 use Rattle.tunnel.specs.Transport.{caseDatagram, encryptKeepalive}
 use Rattle.tunnel.specs.Waking.{clearAll, expireControl, scheduling, queueKeepalive, persistentKeepalive, keepalives, expireCookie, sendScheduled, wake}
 use Rattle.tunnel.specs.declared.control.Control.{Control}
-use Rattle.parts.specs.declared.event.Event.the-variants.{SendHandshakeInitiation, SendKeepalive, ConnectionExpired}
 use Rattle.tunnel.specs.declared.transport.Datagram.{Datagram}
 use Rattle.tunnel.specs.declared.transport.Datagram.the-variants.{Skipped, Sent}
 use Rattle.tunnel.specs.declared.transport.Encrypted.{Encrypted}
-use Rattle.tunnel.proofs.Facts.{no-times}
-use Rattle.tunnel.proofs.Kept.{first-within, on-clear, on-expired, on-clear-cookie, on-sent, on-kept, on-schedule, on-cancel, on-consume, on-initiate, on-initiation}
-use Rattle.tunnel.proofs.Steps.{of-choice}
-use Rattle.tunnel.proofs.Wakings.{WakingKeeps, of-wake}
-use Rattle.tunnel.proofs.SoundSteps.{known-found, known-reserved, SoundControl, counted-within, sending-within, put-sound, index-sound, expire-sound, clear-sound, its-sessions, sound-timers, sound-handshake, sound-sessions, sound-queued}
 
 -- what holds of a keepalive skipped and of every one sent holds of both
 pub of-datagram : {A : Type 0} (P : A → Type 0) (d : Datagram) (x : A) (f : ℕ → ℕ → A) → P x → ((a b : ℕ) → P (f a b)) → P (caseDatagram d x f)

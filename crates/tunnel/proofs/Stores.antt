@@ -6,26 +6,26 @@ use mathlib.Core.List.{List}
 use Prim.Native.Nat.{ℕ, zero, suc, _%_, _≤_, _<_}
 use native.Mathlib.Omega.{arith}
 use lib.ListN.{length}
+use Rattle.sessions.proofs.Apart.{length-zeros, length-put}
+use Rattle.sessions.proofs.Received.{length-batch}
+use Rattle.sessions.proofs.Words.{slot-long}
 use Rattle.sessions.specs.Batch.{Outcome, started, batchOf, receivingSession, commit, receive}
 use Rattle.sessions.specs.Index.{slotIn}
 use Rattle.sessions.specs.Sessions.{Held, insert, clear, Expiring, expireSlot, expireFirst, expire}
 use Rattle.sessions.specs.Store.{slotOf, putSlot, zeros}
 use Rattle.sessions.specs.declared.session.Session.{Session}
 use Rattle.sessions.specs.declared.sessions.Sessions.{Sessions}
-use Rattle.sessions.proofs.Apart.{length-zeros, length-put}
-use Rattle.sessions.proofs.Received.{length-batch}
-use Rattle.sessions.proofs.Words.{slot-long}
+use Rattle.tunnel.proofs.Opened.{known-completed}
+use Rattle.tunnel.proofs.Steps.{of-choice, of-found}
+use Rattle.tunnel.proofs.Wakings.{WakingKeeps, of-wake}
 use Rattle.tunnel.specs.Control.{Turn}
 use Rattle.tunnel.specs.Messages.{respond, handleHandshakeInitiation, handleHandshakeResponse}
+use Rattle.tunnel.specs.Sound.{StoreLaw}
 use Rattle.tunnel.specs.Transport.{Batched, commitDecapsulate}
 use Rattle.tunnel.specs.Tunnel.{kept, timedTurn, timedBatch, callReceive, callInitiation, callResponse, callTimeout}
 use Rattle.tunnel.specs.Waking.{clearAll, expireControl, wake, handleTimeout}
 use Rattle.tunnel.specs.declared.control.Control.{Control}
 use Rattle.tunnel.specs.declared.tunnel.Tunnel.{Tunnel}
-use Rattle.tunnel.proofs.Steps.{of-choice, of-found}
-use Rattle.tunnel.specs.Sound.{StoreLaw}
-use Rattle.tunnel.proofs.Opened.{known-completed}
-use Rattle.tunnel.proofs.Wakings.{WakingKeeps, of-wake}
 
 -- a store of 1,024 words
 abbrev Whole : List ℕ → Type 0

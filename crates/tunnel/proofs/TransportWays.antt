@@ -4,28 +4,28 @@ use mathlib.Core.Path.{_≡_, refl, ap, sym, _∙_}
 use mathlib.Core.Bool.{Bool, true, false}
 use mathlib.Core.List.{List}
 use Prim.Native.Nat.{ℕ}
-use Rattle.base.specs.Choice.{choose}
 use Rattle.base.proofs.Choice.{no-call, yes-flag, no-flag, yes-eq, no-eq}
+use Rattle.base.specs.Choice.{choose}
+use Rattle.parts.specs.Timers.{tickLastDataPacketReceived, tickLastPacketReceived, tickLastPacketSent}
+use Rattle.parts.specs.declared.event.Event.the-variants.{Established}
+use Rattle.parts.specs.declared.timers.Timers.{Timers}
+use Rattle.sessions.proofs.Cases.{is-got, is-first}
 use Rattle.sessions.specs.Batch.{Receives, receive}
 use Rattle.sessions.specs.Range.{range}
 use Rattle.sessions.specs.Session.{reserveCounters, preparePacketData, expiredAt, willReceive}
 use Rattle.sessions.specs.Sessions.{put, sendingSession, setCurrent, inSlotOf}
-use Rattle.sessions.proofs.Cases.{is-got, is-first}
 use Rattle.sessions.specs.declared.batch.Received.{Received}
-use Rattle.sessions.specs.declared.session.Session.{Session}
 use Rattle.sessions.specs.declared.session.Reserved.{Reserved}
 use Rattle.sessions.specs.declared.session.Reserved.the-variants.{First}
+use Rattle.sessions.specs.declared.session.Session.{Session}
 use Rattle.sessions.specs.declared.sessions.Found.{Found}
 use Rattle.sessions.specs.declared.sessions.Found.the-variants.{Got}
 use Rattle.sessions.specs.declared.sessions.Sessions.{Sessions}
 use Rattle.tunnel.specs.Control.{withSessions, withTimers, withEstablished, outcome, refuse, done, expiredControl, queueing}
-use Rattle.parts.specs.Timers.{tickLastDataPacketReceived, tickLastPacketReceived, tickLastPacketSent}
 use Rattle.tunnel.specs.Transport.{encrypted, beginEncapsulate, finishEncapsulate, grant, encryptKeepalive, confirmFirstSession, selecting, accept, batched, committed, committing, commitDecapsulate, Commits, beginDecapsulate}
 use Rattle.tunnel.specs.declared.answer.Answer.the-variants.{Done, Granted}
 use Rattle.tunnel.specs.declared.control.Control.{Control}
 use Rattle.tunnel.specs.declared.control.Out.{Out}
-use Rattle.parts.specs.declared.event.Event.the-variants.{Established}
-use Rattle.parts.specs.declared.timers.Timers.{Timers}
 use Rattle.tunnel.specs.declared.transport.Datagram.the-variants.{Sent}
 
 module _ (c : Control) where

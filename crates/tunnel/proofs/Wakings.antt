@@ -8,10 +8,10 @@ use Rattle.sessions.specs.Sessions.{expire}
 use Rattle.sessions.specs.declared.session.Time.{Time}
 use Rattle.sessions.specs.declared.session.Time.the-variants.{Never, At}
 use Rattle.sessions.specs.declared.sessions.Found.{Found}
+use Rattle.tunnel.proofs.Steps.{of-choice, of-found}
 use Rattle.tunnel.specs.Control.{Inner, withSessions}
 use Rattle.tunnel.specs.Waking.{expireControl, scheduling, keepalives, wakeIdle, wakeInProgress, expireCookie, wakeLater, wakeRest, wakeCurrent, wakeSessions, sendScheduled, wake}
 use Rattle.tunnel.specs.declared.control.Control.{Control}
-use Rattle.tunnel.proofs.Steps.{of-choice, of-found}
 
 -- the steps of a waking keep what is said of a control and its store
 pub record WakingKeeps (P : Control → List ℕ → Type 0) (jitter now : ℕ) : Type 0 where

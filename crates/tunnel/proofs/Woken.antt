@@ -5,6 +5,11 @@ use mathlib.Core.Bool.{Bool, true, false}
 use mathlib.Core.List.{List}
 use Prim.Native.Nat.{ℕ}
 use Rattle.base.specs.Choice.{choose}
+use Rattle.parts.specs.Handshake.{setExpired, clearCookie}
+use Rattle.parts.specs.Timers.{clearTimers, cancelScheduledHandshake, consumePassiveKeepalive, tickPersistentKeepalive}
+use Rattle.parts.specs.declared.event.Event.the-variants.{SendHandshakeInitiation, SendKeepalive, ConnectionExpired}
+use Rattle.parts.specs.declared.handshake.Handshake.{Handshake}
+use Rattle.parts.specs.declared.timers.Timers.{Timers}
 use Rattle.sessions.specs.Session.{caseTime, dueBy}
 use Rattle.sessions.specs.Sessions.{caseFound, clear, expire}
 use Rattle.sessions.specs.Store.{Leaves}
@@ -17,18 +22,13 @@ use Rattle.sessions.specs.declared.sessions.Found.the-variants.{Nothing, Got}
 use Rattle.sessions.specs.declared.sessions.Sessions.{Sessions}
 use Rattle.tunnel.specs.Control.{Inner, withHandshake, withSessions, withTimers, outcome, done, expiredControl, queueing}
 use Rattle.tunnel.specs.Deadlines.{scheduledHandshake, cookieDeadline, rejectDeadline, attemptDeadline, handshakeRekeyTimeout, rekeyOnSend, rekeyAfterMessages, rekeyOnReceive, responseDeadline, passiveDeadline, persistentDeadline}
-use Rattle.parts.specs.Handshake.{setExpired, clearCookie}
 use Rattle.tunnel.specs.Messages.{initiate}
-use Rattle.parts.specs.Timers.{clearTimers, cancelScheduledHandshake, consumePassiveKeepalive, tickPersistentKeepalive}
 use Rattle.tunnel.specs.Transport.{caseDatagram, encryptKeepalive}
 use Rattle.tunnel.specs.Waking.{clearAll, expireControl, scheduling, queueKeepalive, persistentKeepalive, keepalives, rekeyDue, wakeIdle, wakeInProgress, expireCookie, wakeLater, wakeRest, isLost, isReplaced, wakeCurrent, wakeSessions, sendScheduled, wake, handleTimeout}
 use Rattle.tunnel.specs.declared.answer.Answer.the-variants.{NoAnswer}
 use Rattle.tunnel.specs.declared.control.Control.{Control}
 use Rattle.tunnel.specs.declared.control.Out.{Out}
-use Rattle.parts.specs.declared.event.Event.the-variants.{SendHandshakeInitiation, SendKeepalive, ConnectionExpired}
-use Rattle.parts.specs.declared.handshake.Handshake.{Handshake}
 use Rattle.tunnel.specs.declared.messages.Initiated.{Initiated}
-use Rattle.parts.specs.declared.timers.Timers.{Timers}
 use Rattle.tunnel.specs.declared.transport.Datagram.the-variants.{Skipped, Sent}
 use Rattle.tunnel.specs.declared.transport.Encrypted.{Encrypted}
 

@@ -1,6 +1,14 @@
 -- What an answer says in document 01's terms: its number, its word and its values.
 use mathlib.Core.List.{List, [], _∷_}
 use Prim.Native.Nat.{ℕ}
+use Rattle.parts.specs.declared.event.Event.{Event}
+use Rattle.parts.specs.declared.event.Event.the-variants.{
+  Empty,
+  SendHandshakeInitiation,
+  SendKeepalive,
+  Established,
+  ConnectionExpired,
+}
 use Rattle.sessions.specs.declared.session.Time.{Time}
 use Rattle.sessions.specs.declared.session.Time.the-variants.{Never, At}
 use Rattle.tunnel.specs.declared.answer.Answer.{Answer}
@@ -15,14 +23,6 @@ use Rattle.tunnel.specs.declared.answer.Answer.the-variants.{
   Polled,
   Deadline,
   Report,
-}
-use Rattle.parts.specs.declared.event.Event.{Event}
-use Rattle.parts.specs.declared.event.Event.the-variants.{
-  Empty,
-  SendHandshakeInitiation,
-  SendKeepalive,
-  Established,
-  ConnectionExpired,
 }
 
 -- the word after `ok`: `bare` where there is none, `turned` where the answer is a number that turns the call down

@@ -2,8 +2,8 @@
 use mathlib.Core.Bool.{Bool}
 use Prim.Native.Nat.{ℕ}
 use lib.Dec.{leb}
-use Rattle.sessions.specs.Session.{timeLimit}
 use Rattle.parts.specs.Check.{_and_, timeHolds, sessionsHold, eventsHold, handshakeHolds, timersHold}
+use Rattle.sessions.specs.Session.{timeLimit}
 use Rattle.tunnel.specs.declared.control.Control.{Control}
 use Rattle.tunnel.specs.declared.tunnel.Tunnel.{Tunnel}
 

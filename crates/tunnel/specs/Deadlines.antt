@@ -4,14 +4,14 @@ use mathlib.Core.Bool.{Bool, true, false}
 use Prim.Native.Nat.{ℕ}
 use lib.Dec.{ltb}
 use Rattle.base.specs.Choice.{choose}
+use Rattle.parts.specs.Handshake.{cookieExpiration, inFlightInitiation}
+use Rattle.parts.specs.RingBuffer.{ringIsEmpty}
+use Rattle.parts.specs.Timers.{rejectAfterTimeOf, rekeyAttemptDeadline, rekeyAfterTimeWithoutResponse, keepaliveAfterTimeWithoutSend, nextPersistentKeepalive, rekeyTimeoutOf}
 use Rattle.sessions.specs.Session.{caseTime, earlier, rekeyAfterTimeOnSend, rejectAfterTimeOnReceive, rekeyAfterMessagesReached}
 use Rattle.sessions.specs.Sessions.{caseFound, currentOf, nextExpiry}
 use Rattle.sessions.specs.declared.session.Time.{Time}
 use Rattle.sessions.specs.declared.session.Time.the-variants.{Never, At}
 use Rattle.tunnel.specs.Control.{expiredControl}
-use Rattle.parts.specs.Handshake.{cookieExpiration, inFlightInitiation}
-use Rattle.parts.specs.RingBuffer.{ringIsEmpty}
-use Rattle.parts.specs.Timers.{rejectAfterTimeOf, rekeyAttemptDeadline, rekeyAfterTimeWithoutResponse, keepaliveAfterTimeWithoutSend, nextPersistentKeepalive, rekeyTimeoutOf}
 use Rattle.tunnel.specs.declared.control.Control.{Control}
 
 -- when the scheduled handshake is due

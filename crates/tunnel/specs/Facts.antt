@@ -3,20 +3,20 @@ use mathlib.Core.Path.{_≡_}
 use mathlib.Core.Bool.{true}
 use mathlib.Core.List.{List, [], _∷_}
 use Prim.Native.Nat.{ℕ, _≤_, _<_}
+use Rattle.parts.specs.Check.{limit}
+use Rattle.parts.specs.Handshake.{HandshakeWithin}
+use Rattle.parts.specs.RingBuffer.{RingWithin, queued}
+use Rattle.parts.specs.Timers.{TimeWithin, TimersWithin}
+use Rattle.parts.specs.declared.event.Event.{Event}
+use Rattle.parts.specs.declared.event.Event.the-variants.{Established}
+use Rattle.parts.specs.declared.ring_buffer.RingBuffer.{RingBuffer}
 use Rattle.sessions.specs.Index.{slotIn}
 use Rattle.sessions.specs.Session.{timeLimit}
 use Rattle.sessions.specs.Sessions.{slotAt}
 use Rattle.sessions.specs.declared.session.Session.{Session}
 use Rattle.sessions.specs.declared.sessions.Sessions.{Sessions}
-use Rattle.parts.specs.Check.{limit}
 use Rattle.tunnel.specs.Check.{undamaged}
-use Rattle.parts.specs.Handshake.{HandshakeWithin}
-use Rattle.parts.specs.RingBuffer.{RingWithin, queued}
-use Rattle.parts.specs.Timers.{TimeWithin, TimersWithin}
 use Rattle.tunnel.specs.declared.control.Control.{Control}
-use Rattle.parts.specs.declared.event.Event.{Event}
-use Rattle.parts.specs.declared.event.Event.the-variants.{Established}
-use Rattle.parts.specs.declared.ring_buffer.RingBuffer.{RingBuffer}
 use Rattle.tunnel.specs.declared.tunnel.Tunnel.{Tunnel}
 
 -- a session's time is at most this, its counters are at most LIMIT, and its index is of this slot

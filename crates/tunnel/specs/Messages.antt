@@ -5,17 +5,17 @@ use mathlib.Core.Bool.{Bool}
 use mathlib.Core.List.{List}
 use Prim.Native.Nat.{ℕ}
 use Rattle.base.specs.Choice.{choose}
+use Rattle.parts.specs.Handshake.{caseCompleted, caseCookie, isInProgress, initiateHandshake, receiveHandshakeInitialization, receiveHandshakeResponse, receiveCookieReply}
+use Rattle.parts.specs.Timers.{getOr, tickCompleted, tickInitiation, tickResponse}
+use Rattle.parts.specs.declared.handshake.Handshake.{Handshake}
 use Rattle.sessions.specs.Sessions.{nextIndex, insert, setCurrent}
 use Rattle.sessions.specs.declared.session.Session.{Session}
 use Rattle.sessions.specs.declared.session.Time.the-variants.{At}
 use Rattle.tunnel.specs.Control.{Turn, withHandshake, withSessions, withTimers, withFirstInitiationAt, refuse, done, expiredControl}
-use Rattle.parts.specs.Handshake.{caseCompleted, caseCookie, isInProgress, initiateHandshake, receiveHandshakeInitialization, receiveHandshakeResponse, receiveCookieReply}
-use Rattle.parts.specs.Timers.{getOr, tickCompleted, tickInitiation, tickResponse}
 use Rattle.tunnel.specs.Transport.{caseDatagram, confirmFirstSession, encryptKeepalive}
 use Rattle.tunnel.specs.declared.answer.Answer.the-variants.{Done, NoAnswer, Initiation, Response, Keepalive}
 use Rattle.tunnel.specs.declared.control.Control.{Control}
 use Rattle.tunnel.specs.declared.control.Out.{Out}
-use Rattle.parts.specs.declared.handshake.Handshake.{Handshake}
 use Rattle.tunnel.specs.declared.messages.Initiated.{Initiated}
 
 -- the control after an answered initiation

@@ -4,6 +4,7 @@ use mathlib.Core.Bool.{true, false}
 use mathlib.Core.List.{List}
 use mathlib.Core.Logic.{_⊎_}
 use Prim.Native.Nat.{ℕ}
+use Rattle.parts.specs.declared.timers.Interval.the-variants.{Off}
 use Rattle.sessions.specs.Session.{dueBy}
 use Rattle.sessions.specs.Sessions.{currentOf}
 use Rattle.sessions.specs.declared.session.Session.{Session}
@@ -14,7 +15,6 @@ use Rattle.tunnel.specs.Tunnel.{callDeadline}
 use Rattle.tunnel.specs.Waking.{inner, wake}
 use Rattle.tunnel.specs.declared.answer.Answer.the-variants.{Deadline}
 use Rattle.tunnel.specs.declared.control.Control.{Control}
-use Rattle.parts.specs.declared.timers.Interval.the-variants.{Off}
 use Rattle.tunnel.specs.declared.tunnel.Tunnel.{Tunnel}
 
 -- A waking that comes early: the next deadline has not come, and a session is current or no persistent keepalive is set.

@@ -6,6 +6,8 @@ use mathlib.Core.List.{List}
 use Prim.Native.Nat.{ℕ}
 use lib.Dec.{eqb}
 use Rattle.base.specs.Choice.{choose}
+use Rattle.parts.specs.Timers.{tickLastDataPacketReceived, tickLastDataPacketSent, tickLastPacketReceived, tickLastPacketSent}
+use Rattle.parts.specs.declared.event.Event.the-variants.{Established}
 use Rattle.sessions.specs.Batch.{Outcome, receive}
 use Rattle.sessions.specs.Range.{range}
 use Rattle.sessions.specs.Session.{caseReserved, expiredAt, preparePacketData, reserveCounters, willReceive}
@@ -13,11 +15,9 @@ use Rattle.sessions.specs.Sessions.{caseFound, inSlotOf, put, sendingSession, s
 use Rattle.sessions.specs.declared.batch.Received.{Received}
 use Rattle.sessions.specs.declared.session.Session.{Session}
 use Rattle.tunnel.specs.Control.{withSessions, withTimers, withEstablished, outcome, refuse, done, expiredControl, queueing}
-use Rattle.parts.specs.Timers.{tickLastDataPacketReceived, tickLastDataPacketSent, tickLastPacketReceived, tickLastPacketSent}
 use Rattle.tunnel.specs.declared.answer.Answer.the-variants.{No, Done, Granted}
 use Rattle.tunnel.specs.declared.control.Control.{Control}
 use Rattle.tunnel.specs.declared.control.Out.{Out}
-use Rattle.parts.specs.declared.event.Event.the-variants.{Established}
 use Rattle.tunnel.specs.declared.transport.Datagram.{Datagram}
 use Rattle.tunnel.specs.declared.transport.Datagram.the-variants.{Skipped, Sent}
 use Rattle.tunnel.specs.declared.transport.Encrypted.{Encrypted}

@@ -3,19 +3,19 @@ use mathlib.Core.Bool.{Bool, true, false}
 use mathlib.Core.List.{List}
 use Prim.Native.Nat.{ℕ, _+_}
 use Rattle.base.specs.Choice.{choose}
+use Rattle.parts.specs.Handshake.{isInProgress, setExpired, clearCookie}
+use Rattle.parts.specs.Timers.{clearTimers, scheduleHandshake, cancelScheduledHandshake, consumePassiveKeepalive, tickPersistentKeepalive}
+use Rattle.parts.specs.declared.event.Event.the-variants.{SendHandshakeInitiation, SendKeepalive, ConnectionExpired}
 use Rattle.sessions.specs.Session.{caseTime, caseRole, dueBy}
 use Rattle.sessions.specs.Sessions.{caseFound, clear, expire, isEmpty}
 use Rattle.sessions.specs.declared.session.Session.{Session}
 use Rattle.sessions.specs.declared.sessions.Found.{Found}
 use Rattle.tunnel.specs.Control.{Inner, Turn, withHandshake, withSessions, withTimers, outcome, done, expiredControl, queueing}
 use Rattle.tunnel.specs.Deadlines.{scheduledHandshake, cookieDeadline, rejectDeadline, attemptDeadline, handshakeRekeyTimeout, rekeyOnSend, rekeyAfterMessages, rekeyOnReceive, responseDeadline, passiveDeadline, persistentDeadline}
-use Rattle.parts.specs.Handshake.{isInProgress, setExpired, clearCookie}
 use Rattle.tunnel.specs.Messages.{initiate}
-use Rattle.parts.specs.Timers.{clearTimers, scheduleHandshake, cancelScheduledHandshake, consumePassiveKeepalive, tickPersistentKeepalive}
 use Rattle.tunnel.specs.Transport.{caseDatagram, encryptKeepalive}
 use Rattle.tunnel.specs.declared.answer.Answer.the-variants.{NoAnswer}
 use Rattle.tunnel.specs.declared.control.Control.{Control}
-use Rattle.parts.specs.declared.event.Event.the-variants.{SendHandshakeInitiation, SendKeepalive, ConnectionExpired}
 
 -- a control and its store
 abbrev pub inner : Control → List ℕ → Inner
