@@ -491,7 +491,7 @@ fn peer_key() -> PublicKey {
 }
 
 /// An incoming initiation that comes out as the script says; for 7 the key agreement fails later.
-fn incoming_initiation(peer: u32, outcome: u64) -> HandshakeInitiation {
+pub(crate) fn incoming_initiation(peer: u32, outcome: u64) -> HandshakeInitiation {
     let wrong_key = PublicKey::from([2; 32]);
 
     HandshakeInitiation(Box::new(InnerHandshakeInitiation {

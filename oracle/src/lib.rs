@@ -5,10 +5,12 @@ mod crypto;
 mod driver;
 mod errors;
 mod script;
+mod speed;
 
 pub use driver::{Answer, Driver, Number, View, ViewSession};
 pub use keys::PublicKey;
 pub use script::{Call, Lines, MAX_LINE, Opening, read};
+pub use speed::speed;
 pub use window::Window;
 
 mod window;

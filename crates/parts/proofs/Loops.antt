@@ -49,6 +49,11 @@ module _ (s : Sessions) (greatest : ℕ) where
           let e : suc slot + (7 - slot) ≡ 8 = omega arith in
           sym (rw e at (slots-fail (suc slot) (7 - slot) (slot-fails t)))
 
+-- a ring without an event holds
+pub queue-empty : (r : RingBuffer) (greatest : ℕ) → r .len ≡ 0 → true ≡ queueHolds (queued r) greatest
+unfolding queueHolds queued eventsFrom
+queue-empty r greatest e = rw e refl
+
 -- the queue holds if the events from a place on do
 pub record QueueYet (r : RingBuffer) (greatest i : ℕ) : Type 0 where
   pub ring : RingWithin r

@@ -143,7 +143,7 @@ fn queue_holds(events: RingBuffer, greatest: u64) -> bool
     true
 }
 
-// The ring.
+// The ring. One without an event is not gone through.
 pub fn events_hold(events: RingBuffer, greatest: u64) -> bool
     ensures { λ r. ⌜ r ≡ eventsHold events greatest ⌝ }
 {
@@ -152,6 +152,9 @@ pub fn events_hold(events: RingBuffer, greatest: u64) -> bool
     }
     if events.len > 16 {
         return false;
+    }
+    if events.len == 0 {
+        return true;
     }
     queue_holds(events, greatest)
 }

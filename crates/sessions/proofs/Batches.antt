@@ -26,23 +26,36 @@ use Rattle.sessions.specs.Sessions.{caseFound, put}
 use Rattle.sessions.specs.Batch.{known, fits, accepting, finish, finishWords, FinishesAt, Batch, withVerdict, finishAll, Finishes, started, withProgress, receivingSession, refused, Ready, FinishesSlot, answered, commit, receive, Receives}
 use Rattle.sessions.proofs.Words.{part-is, part-put}
 
--- a search for a kind that is none of the three has found none among the first
-module _ (kinds : List ℕ) (i : ℕ) (inv : known kinds ≡ known (drop i kinds)) where
-  known-step : i < length kinds → known kinds ≡ choose (ltb 2 (getD kinds i 0)) false (known (drop (suc i) kinds))
+-- all kinds are known if those looked at are and the others are
+known-moved : (good unknown x : Bool) → choose good (choose unknown false x) false ≡ choose (choose unknown false good) x false
+unfolding choose
+known-moved true true x = refl
+known-moved true false x = refl
+known-moved false true x = refl
+known-moved false false x = refl
+
+known-good : (good : Bool) → choose good true false ≡ good
+unfolding choose
+known-good true = refl
+known-good false = refl
+
+pub known-begun : (kinds : List ℕ) → known kinds ≡ choose true (known (drop 0 kinds)) false
+unfolding choose
+known-begun kinds = refl
+
+module _ (kinds : List ℕ) (i : ℕ) (good : Bool) (inv : known kinds ≡ choose good (known (drop i kinds)) false) where
+  known-step : i < length kinds
+      → known kinds ≡ choose good (choose (ltb 2 (getD kinds i 0)) false (known (drop (suc i) kinds))) false
   unfolding known
   known-step h = inv ∙ rw (drop-cons kinds i 0 h)
 
-  pub known-more : i < length kinds → getD kinds i 0 ≤ 2 → known kinds ≡ known (drop (i + 1) kinds)
-  unfolding choose
-  known-more h p = rw add-one (known-step h ∙ rw (le-ltb 2 (getD kinds i 0) p))
+  pub known-more : (after : Bool) → after ≡ choose (ltb 2 (getD kinds i 0)) false good → i < length kinds
+      → known kinds ≡ choose after (known (drop (i + 1) kinds)) false
+  known-more after e h = rw add-one (rw e (known-step h ∙ known-moved good (ltb 2 (getD kinds i 0)) (known (drop (suc i) kinds))))
 
-  pub unknown-found : i < length kinds → 2 < getD kinds i 0 → false ≡ known kinds
-  unfolding choose
-  unknown-found h p = sym (known-step h ∙ rw (lt-ltb 2 (getD kinds i 0) p))
-
-  pub all-known : length kinds ≤ i → true ≡ known kinds
+  pub all-known : length kinds ≤ i → good ≡ known kinds
   unfolding known
-  all-known h = sym (inv ∙ rw (drop-of-length-le kinds {i = i} h))
+  all-known h = sym (inv ∙ rw (drop-of-length-le kinds {i = i} h) (known-good good))
 
 -- lists that make a batch are of one length
 ready : (store counters kinds verdicts : List ℕ) (long : Bool) → length store ≡ 1024 → (b d : Bool)
@@ -106,7 +119,8 @@ module _ (words : List ℕ) (progress : Progress) (counter kind : ℕ) where
 -- the message at a place of the lists
 pub message-done : (words : List ℕ) (progress : Progress) (counters kinds verdicts : List ℕ) (i : ℕ) (last : List ℕ) (f : Finished)
     → Leaves f (finish words progress (getD counters i 0) (getD kinds i 0)) last (finishWords words progress (getD counters i 0) (getD kinds i 0))
-    → FinishesAt words progress counters kinds verdicts i (f .progress) last (set verdicts i (f .verdict))
+    → FinishesAt words progress counters kinds verdicts i
+    (record { next = f .progress .next; accepted = f .progress .accepted; «data» = f .progress .«data» }) last (set verdicts i (f .verdict))
 message-done words progress counters kinds verdicts i last f l =
     record { out = ap (λ (x : Finished). x .progress) (l .out); words-left = l .words; list = ap (λ (x : Finished). set verdicts i (x .verdict)) (l .out) }
 

@@ -2,9 +2,12 @@
 use crate::session::Session;
 use crate::sessions::Found;
 use crate::sessions::Sessions;
+ghost use mathlib.Core.Bool.{false};
 ghost use mathlib.Core.Path.{_≡_};
 ghost use Prim.Native.Nat.{_<_};
+ghost use lib.Dec.{ltb};
 ghost use lib.ListN.{length};
+ghost use Rattle.base.specs.Choice.{choose};
 ghost use Rattle.sessions.specs.Store.{Leaves};
 ghost use Rattle.sessions.specs.Batch.{known, fits, finish, finishWords, FinishesAt, started, finishAll, Finishes, Ready, FinishesSlot, withProgress, refused, answered, receivingSession, commit, receive, Receives};
 
@@ -40,18 +43,27 @@ pub struct Received {
     pub established_at: u64,
 }
 
-// Whether every kind is one of the three.
+// Whether a kind is one of the three, where those before it are.
+fn known_after(before: bool, kind: u8) -> bool
+    ensures { λ r. ⌜ r ≡ choose (ltb 2 kind) false before ⌝ }
+{
+    if kind > FAILED {
+        return false;
+    }
+    before
+}
+
+// Whether every kind is one of the three. Every kind is looked at, so that many can be at once.
 fn known(kinds: &[u8]) -> bool
     ensures { λ r. ⌜ r ≡ known (now (kinds .entry)) ⌝ }
 {
+    let mut good = true;
     let mut i = 0;
     while i < kinds.len() {
-        if kinds[i] > FAILED {
-            return false;
-        }
+        good = known_after(good, kinds[i]);
         i = i + 1;
     }
-    true
+    good
 }
 
 // Whether lists make a batch: of one length, of at most 1,024 messages, each of a known kind.
@@ -123,7 +135,8 @@ fn started(session: Session) -> Progress
     }
 }
 
-// Commits the message at a place of the lists to a window's words, and puts its verdict at that place.
+// Commits the message at a place of the lists to a window's words, and puts its verdict at that place. The progress is handed back
+// field by field, without the bytes between them.
 fn finish_at(
     words: &mut [u64],
     progress: Progress,
@@ -137,7 +150,12 @@ fn finish_at(
 {
     let finished = finish_receive_packet_data(words, progress, counters[i], kinds[i]);
     verdicts[i] = finished.verdict;
-    finished.progress
+    let after = finished.progress;
+    Progress {
+        next: after.next,
+        accepted: after.accepted,
+        data: after.data,
+    }
 }
 
 // Commits the messages in order to a window's words, each with the window as those before it left it.

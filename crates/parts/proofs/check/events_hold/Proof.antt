@@ -1,6 +1,7 @@
 use Rattle.parts.specs.Check.{eventsHold}
 use Rattle.base.proofs.Choice.{picks}
 use borrow.Author.Needs.{needs}
+use Rattle.parts.proofs.Loops.{queue-empty}
 use Rattle.parts.proofs.check.events_hold.Statement.{statement}
 use Rattle.parts.proofs.check.events_hold.Tie as tie
 
@@ -12,12 +13,16 @@ returns-2 : tie.Need-returns-2
 unfolding eventsHold
 returns-2 c = search (picks, needs)
 
+returns-3 : tie.Need-returns-3
+unfolding eventsHold
+returns-3 c = search (picks, queue-empty, needs)
+
 queue-holds-requires : tie.Need-queue-holds-requires
 queue-holds-requires c κs = search needs
 
-returns-3 : tie.Need-returns-3
+returns-4 : tie.Need-returns-4
 unfolding eventsHold
-returns-3 c = search (picks, needs)
+returns-4 c = search (picks, needs)
 
 pub events-hold-spec : {M : Type 1} → statement M
-events-hold-spec = tie.close (tie.spec returns returns-2 queue-holds-requires returns-3)
+events-hold-spec = tie.close (tie.spec returns returns-2 returns-3 queue-holds-requires returns-4)

@@ -1,26 +1,28 @@
 use borrow.Author.Needs.{needs}
+use Rattle.base.specs.Choice.{choose}
 use Rattle.sessions.specs.Batch.{known}
 use lib.ListN.{length, drop}
+use mathlib.Core.Bool.{false}
 use mathlib.Core.Path.{_≡_}
 use Prim.Native.Nat.{_-_, _≤_}
-use Rattle.sessions.proofs.Batches.{all-known, known-more, unknown-found}
+use Rattle.sessions.proofs.Batches.{all-known, known-begun, known-more}
 use Rattle.sessions.proofs.batch.known.Statement.{statement}
 use Rattle.sessions.proofs.batch.known.Tie as tie
 
 abbrev Inv-loop : tie.InvT-loop
-Inv-loop kinds i₀ i = (i ≤ length kinds) × (known kinds ≡ known (drop i kinds))
+Inv-loop kinds good₀ i₀ good i = (i ≤ length kinds) × (known kinds ≡ choose good (known (drop i kinds)) false)
 
 abbrev μ-loop : tie.MeasureT-loop
-μ-loop kinds i₀ i = length kinds - i
+μ-loop kinds good₀ i₀ good i = length kinds - i
 
 loop-holds : tie.Need-loop-holds Inv-loop μ-loop
-loop-holds c = search needs
+loop-holds c = search (known-begun, needs)
 
-shared-slice-read-if1 : tie.Need-shared-slice-read-if1 Inv-loop μ-loop
-shared-slice-read-if1 c = search needs
+shared-slice-read-known-after : tie.Need-shared-slice-read-known-after Inv-loop μ-loop
+shared-slice-read-known-after c = search needs
 
-returns : tie.Need-returns Inv-loop μ-loop
-returns c = search (unknown-found, needs)
+known-after-requires : tie.Need-known-after-requires Inv-loop μ-loop
+known-after-requires c κs = tt
 
 add-i : tie.Need-add-i Inv-loop μ-loop
 add-i c = search needs
@@ -31,8 +33,8 @@ loop-less c = search needs
 loop-again : tie.Need-loop-again Inv-loop μ-loop
 loop-again c = search (known-more, needs)
 
-returns-2 : tie.Need-returns-2 Inv-loop μ-loop
-returns-2 c = search (all-known, needs)
+returns : tie.Need-returns Inv-loop μ-loop
+returns c = search (all-known, needs)
 
 pub known-spec : {M : Type 1} → statement M
 known-spec =
@@ -41,9 +43,9 @@ known-spec =
     Inv-loop
     μ-loop
     loop-holds
-    shared-slice-read-if1
-    returns
+    shared-slice-read-known-after
+    known-after-requires
     add-i
     loop-less
     loop-again
-    returns-2)
+    returns)

@@ -1,0 +1,181 @@
+// Makes one call over and over, so that its instructions can be counted: standard input has the case's letter, the pattern of the
+// counters, the length of a batch, and then a byte for each turn. It writes four numbers of the tunnel as the turns left it.
+mod begin;
+mod counters;
+mod day;
+mod turns;
+
+use crate::begin::INDEX;
+use crate::begin::carrying;
+use crate::begin::established;
+use crate::begin::filled;
+use crate::begin::started;
+use crate::begin::weight;
+use crate::counters::fill;
+use crate::day::rounds;
+use crate::turns::deadlines;
+use crate::turns::events;
+use crate::turns::looks;
+use crate::turns::receives;
+use crate::turns::sends;
+use crate::turns::wakes;
+use libc::STDIN_FILENO;
+use libc::STDOUT_FILENO;
+use tunnel::tunnel::Answered;
+use tunnel::tunnel::Tunnel;
+
+// What the input asks for.
+struct Asked {
+    case: u8,
+    pattern: u8,
+    length: u8,
+    turns: usize,
+}
+
+// Reads what is asked for.
+fn ask(input: &[u8]) -> Asked {
+    if input.len() < 3 {
+        return Asked {
+            case: 0,
+            pattern: 0,
+            length: 0,
+            turns: 0,
+        };
+    }
+    Asked {
+        case: input[0],
+        pattern: input[1],
+        length: input[2],
+        turns: input.len() - 3,
+    }
+}
+
+// The number of messages in a batch.
+fn length_of(letter: u8) -> usize {
+    match letter {
+        b'1' => 1,
+        b'2' => 64,
+        _ => 1024,
+    }
+}
+
+// The cases with a list, over so much of the kinds and the verdicts as a batch has.
+fn listed(
+    tunnel: Tunnel,
+    store: &mut [u64],
+    counters: &[u64],
+    kinds: &[u8],
+    verdicts: &mut [u8],
+    asked: Asked,
+    length: usize,
+) -> Tunnel {
+    if length > kinds.len() {
+        return tunnel;
+    }
+    if length > verdicts.len() {
+        return tunnel;
+    }
+    if asked.case == b'm' {
+        return rounds(
+            tunnel,
+            store,
+            counters,
+            &kinds[0..length],
+            &mut verdicts[0..length],
+            asked.turns,
+        );
+    }
+    receives(
+        tunnel,
+        store,
+        counters,
+        &kinds[0..length],
+        &mut verdicts[0..length],
+        asked.turns,
+    )
+}
+
+// The cases without a list.
+fn alone(asked: Asked, store: &mut [u64]) -> Tunnel {
+    let tunnel = carrying(store);
+    let case = asked.case;
+    match case {
+        b'l' => looks(tunnel, store, asked.turns),
+        b'i' => wakes(tunnel, store, 1, asked.turns),
+        b'd' => deadlines(tunnel, asked.turns),
+        _ => events(tunnel, asked.turns),
+    }
+}
+
+// Carries the case out.
+fn run(
+    asked: Asked,
+    store: &mut [u64],
+    counters: &[u64],
+    kinds: &[u8],
+    verdicts: &mut [u8],
+) -> Tunnel {
+    let case = asked.case;
+    match case {
+        b's' => sends(established(store, 0), asked.turns),
+        b'r' | b'm' => listed(
+            established(store, 25),
+            store,
+            counters,
+            kinds,
+            verdicts,
+            asked,
+            length_of(asked.length),
+        ),
+        b'k' => wakes(established(store, 1), store, 1_000_000_000, asked.turns),
+        b'f' => deadlines(wakes(filled(store), store, 1_000_000_000, 16), asked.turns),
+        b'h' => wakes(started(store, 0), store, 5_000_000_000, asked.turns),
+        _ => alone(asked, store),
+    }
+}
+
+// A verdict as a wide number.
+fn wide(verdict: u8) -> u64 {
+    verdict as u64
+}
+
+// The sum of the verdicts.
+fn sum(verdicts: &[u8]) -> u64 {
+    let mut total = 0;
+    let mut i = 0;
+    while i < verdicts.len() {
+        total = std::num::wrapping_add_u64(total, wide(verdicts[i]));
+        i = i + 1;
+    }
+    total
+}
+
+// Writes a number that depends on a call's answer.
+fn print(answered: Answered) {
+    let answer = answered.answer;
+    io::print_decimal(STDOUT_FILENO, weight(answer));
+    io::write_all(STDOUT_FILENO, b" ");
+}
+
+// Writes the missing report, the deadline, the counter of a send and the verdicts' sum.
+fn report(tunnel: Tunnel, store: &[u64], verdicts: &[u8]) {
+    print(tunnel.missing(store, INDEX));
+    print(tunnel.poll_timeout());
+    print(tunnel.send(1, tunnel.greatest));
+    io::print_decimal(STDOUT_FILENO, sum(verdicts));
+    io::write_all(STDOUT_FILENO, b"\n");
+}
+
+fn main() {
+    let mut input = io::large_buffer();
+    let mut store = [0u64; 1024];
+    let mut counters = [0u64; 65536];
+    let kinds = [0u8; 1024];
+    let mut verdicts = [0u8; 1024];
+    let got = libc::read(STDIN_FILENO, &mut input);
+    let count = io::count(got, &input);
+    let asked = ask(&input[..count]);
+    fill(&mut counters, asked.pattern);
+    let tunnel = run(asked, &mut store, &counters, &kinds, &mut verdicts);
+    report(tunnel, &store, &verdicts);
+}

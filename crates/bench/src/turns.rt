@@ -1,0 +1,114 @@
+// One call over and over. A call that leaves the tunnel as it is finds its greatest time raised at each turn.
+use crate::begin::INDEX;
+use crate::begin::weight;
+use tunnel::tunnel::Tunnel;
+
+// Sends of one message.
+pub fn sends(begun: Tunnel, turns: usize) -> Tunnel {
+    let mut tunnel = begun;
+    let mut now = 0;
+    let mut i = 0;
+    while i < turns {
+        let send = tunnel.send(1, now);
+        tunnel = send.tunnel;
+        now = std::num::wrapping_add_u64(now, 1);
+        i = i + 1;
+    }
+    tunnel
+}
+
+// Batches of as many messages as there are kinds.
+pub fn receives(
+    begun: Tunnel,
+    store: &mut [u64],
+    counters: &[u64],
+    kinds: &[u8],
+    verdicts: &mut [u8],
+    turns: usize,
+) -> Tunnel {
+    let mut tunnel = begun;
+    let mut now = 0;
+    let mut start = 0;
+    let mut i = 0;
+    while i < turns {
+        i = i + 1;
+        let end = std::num::wrapping_add_usize(start, kinds.len());
+        if start > end {
+            return tunnel;
+        }
+        if end > counters.len() {
+            return tunnel;
+        }
+        let batch = tunnel.receive(store, INDEX, 0, now, &counters[start..end], kinds, verdicts);
+        tunnel = batch.tunnel;
+        now = std::num::wrapping_add_u64(now, 1);
+        start = end;
+    }
+    tunnel
+}
+
+// Early looks at counters that follow each other.
+pub fn looks(begun: Tunnel, store: &[u64], turns: usize) -> Tunnel {
+    let mut tunnel = begun;
+    let mut sum = 0;
+    let mut i = 0;
+    while i < turns {
+        let now = i as u64;
+        tunnel.greatest = now;
+        let look = tunnel.look(store, INDEX, now, now);
+        tunnel = look.tunnel;
+        let answer = look.answer;
+        sum = std::num::wrapping_add_u64(sum, weight(answer));
+        i = i + 1;
+    }
+    tunnel.greatest = std::num::wrapping_add_u64(tunnel.greatest, sum % 2);
+    tunnel
+}
+
+// Wakings at times that are a step apart.
+pub fn wakes(begun: Tunnel, store: &mut [u64], step: u64, turns: usize) -> Tunnel {
+    let mut tunnel = begun;
+    let mut now = step;
+    let mut i = 0;
+    while i < turns {
+        let waking = tunnel.handle_timeout(store, 0, now);
+        tunnel = waking.tunnel;
+        now = std::num::wrapping_add_u64(now, step);
+        i = i + 1;
+    }
+    tunnel
+}
+
+// Deadlines.
+pub fn deadlines(begun: Tunnel, turns: usize) -> Tunnel {
+    let mut tunnel = begun;
+    let mut sum = 0;
+    let mut i = 0;
+    while i < turns {
+        tunnel.greatest = std::num::wrapping_add_u64(tunnel.greatest, 1);
+        let deadline = tunnel.poll_timeout();
+        tunnel = deadline.tunnel;
+        let answer = deadline.answer;
+        sum = std::num::wrapping_add_u64(sum, weight(answer));
+        i = i + 1;
+    }
+    tunnel.greatest = std::num::wrapping_add_u64(tunnel.greatest, sum % 2);
+    tunnel
+}
+
+// Polls of an empty queue.
+pub fn events(begun: Tunnel, turns: usize) -> Tunnel {
+    let mut tunnel = begun;
+    let mut sum = 0;
+    let mut i = 0;
+    while i < turns {
+        tunnel.greatest = i as u64;
+        let event = tunnel.poll_event();
+        tunnel = event.tunnel;
+        let answer = event.answer;
+        sum = std::num::wrapping_add_u64(sum, weight(answer));
+        i = i + 1;
+    }
+    tunnel.greatest = std::num::wrapping_add_u64(tunnel.greatest, sum % 2);
+    tunnel
+}
