@@ -1,7 +1,7 @@
 // The tunnels that the cases begin with.
+use control::answer::Answer;
 use parts::event::Event;
 use sessions::session::Time;
-use tunnel::answer::Answer;
 use tunnel::tunnel::Tunnel;
 
 // The local index of the first session.

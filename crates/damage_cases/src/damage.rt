@@ -1,5 +1,6 @@
 // Fields of a tunnel set to a value, and the values at the edge of what number 14 lets through and just beyond it.
 use crate::sound::GREATEST;
+use control::control::Control;
 use parts::event::Event;
 use parts::handshake::Cookies;
 use parts::handshake::Handshake;
@@ -12,7 +13,6 @@ use parts::timers::Timers;
 use sessions::session::REJECT_AFTER_MESSAGES;
 use sessions::session::Session;
 use sessions::session::Time;
-use tunnel::control::Control;
 use tunnel::tunnel::TIME_LIMIT;
 use tunnel::tunnel::Tunnel;
 

@@ -1,9 +1,9 @@
 // A call with its arguments, and what it was seen to do.
 use crate::same::same_tunnel;
+use control::answer::Answer;
+use control::control::Control;
 use sessions::session::Time;
 use sessions::sessions::Sessions;
-use tunnel::answer::Answer;
-use tunnel::control::Control;
 use tunnel::tunnel::Answered;
 use tunnel::tunnel::Tunnel;
 

@@ -1,4 +1,5 @@
 // Whether two tunnels are the same, field by field. An enum is compared by the number of its variant and by what the variant holds.
+use control::control::Control;
 use parts::event::Event;
 use parts::handshake::Cookies;
 use parts::handshake::Handshake;
@@ -11,7 +12,6 @@ use sessions::session::Session;
 use sessions::session::Time;
 use sessions::sessions::Selected;
 use sessions::sessions::Sessions;
-use tunnel::control::Control;
 use tunnel::tunnel::Tunnel;
 
 // A variant's number and the two numbers that it holds, 0 where it holds fewer.

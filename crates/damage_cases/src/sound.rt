@@ -1,4 +1,5 @@
 // The tunnels that the cases start from.
+use control::control::Control;
 use parts::event::Event;
 use parts::handshake::Handshake;
 use parts::handshake::HandshakeState;
@@ -7,7 +8,6 @@ use parts::ring_buffer::Slot;
 use parts::timers::Timers;
 use sessions::session::Session;
 use sessions::session::Time;
-use tunnel::control::Control;
 use tunnel::tunnel::Tunnel;
 
 // The greatest time of the sound tunnel.

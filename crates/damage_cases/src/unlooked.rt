@@ -1,12 +1,12 @@
 // Fields that number 14 does not look at, each with a value that the calls would not leave there.
 use crate::damage::with_control;
+use control::control::Control;
 use parts::handshake::Cookies;
 use parts::handshake::Handshake;
 use parts::handshake::HandshakeState;
 use sessions::session::Session;
 use sessions::sessions::Selected;
 use sessions::sessions::Sessions;
-use tunnel::control::Control;
 use tunnel::tunnel::Tunnel;
 
 // How many such changes there are.

@@ -8,6 +8,8 @@ use native.Mathlib.Nat.{add-zero}
 use native.Mathlib.Omega.{arith}
 use lib.ListN.{getD-replicate, length-replicate}
 use Rattle.base.specs.Choice.{choose}
+use Rattle.control.specs.Control.{newControl}
+use Rattle.control.specs.declared.answer.Answer.the-variants.{No, Done}
 use Rattle.demands.proofs.Grown.{sound-step, sound-created}
 use Rattle.demands.proofs.Held.{append-nothing, Held}
 use Rattle.demands.proofs.Known.{Known, known-as}
@@ -22,11 +24,9 @@ use Rattle.sessions.proofs.Apart.{length-zeros}
 use Rattle.sessions.specs.Session.{emptySession}
 use Rattle.sessions.specs.Sessions.{emptySlots, newSessions}
 use Rattle.sessions.specs.Store.{zeros}
-use Rattle.tunnel.specs.Control.{newControl}
 use Rattle.tunnel.specs.Sound.{Sound}
 use Rattle.tunnel.specs.Tunnel as calls
 use Rattle.tunnel.specs.Tunnel.{Called, answered, callNew, refused}
-use Rattle.tunnel.specs.declared.answer.Answer.the-variants.{No, Done}
 
 -- what is known after a list of calls
 abbrev pub KnownAfter : (n : ℕ) (h : ℕ → List ℕ) (g k : List Grant) → World → List Call → Type 0

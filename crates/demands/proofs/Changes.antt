@@ -9,6 +9,7 @@ use native.Mathlib.Omega.{arith}
 use lib.ListN.{length, length-set}
 use borrow.Author.Tests.{eq-eqb}
 use Rattle.base.specs.Choice.{choose}
+use Rattle.control.proofs.Steps.{of-choice}
 use Rattle.demands.proofs.Held.{from-on, long-from, counters-on, counters-own, counters-other, append-nothing, Runs, SlotHeld, Held, Changed, held-changed}
 use Rattle.demands.proofs.Moves.{InSlot, received-slot, put-at, changed-put}
 use Rattle.demands.specs.Sending.{Grant, granting, upFrom, countersOf}
@@ -26,7 +27,6 @@ use Rattle.sessions.specs.Store.{slotOf, putSlot, zeros}
 use Rattle.sessions.specs.declared.session.Session.{Session}
 use Rattle.sessions.specs.declared.sessions.Found.the-variants.{Got}
 use Rattle.sessions.specs.declared.sessions.Sessions.{Sessions}
-use Rattle.tunnel.proofs.Steps.{of-choice}
 use Rattle.window.specs.Window.{limit}
 
 -- two changes of one slot

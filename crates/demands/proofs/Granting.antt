@@ -9,6 +9,15 @@ use lib.Dec.{leb}
 use lib.ListN.{length}
 use borrow.Author.Tests.{leb-true}
 use Rattle.base.specs.Choice.{choose}
+use Rattle.control.proofs.SoundSteps.{known-found, known-reserved, sending-current}
+use Rattle.control.proofs.Steps.{of-choice}
+use Rattle.control.specs.Control.{outcome, done, withSessions, withTimers}
+use Rattle.control.specs.Transport.{beginEncapsulate, finishEncapsulate, grant, send, encrypted, encryptKeepalive}
+use Rattle.control.specs.declared.answer.Answer.the-variants.{No, Granted}
+use Rattle.control.specs.declared.control.Control.{Control}
+use Rattle.control.specs.declared.control.Out.{Out}
+use Rattle.control.specs.declared.transport.Datagram.the-variants.{Skipped, Sent}
+use Rattle.control.specs.declared.transport.Encrypted.{Encrypted}
 use Rattle.demands.proofs.Changes.{Alike, changed-on, held-marked, held-granted}
 use Rattle.demands.proofs.Held.{Changed}
 use Rattle.demands.proofs.Known.{Known, plain-of, Idle, idle-refused}
@@ -24,15 +33,6 @@ use Rattle.sessions.specs.declared.session.Reserved.the-variants.{TooFew, First
 use Rattle.sessions.specs.declared.session.Session.{Session}
 use Rattle.sessions.specs.declared.sessions.Found.the-variants.{Got}
 use Rattle.sessions.specs.declared.sessions.Sessions.{Sessions}
-use Rattle.tunnel.proofs.SoundSteps.{known-found, known-reserved, sending-current}
-use Rattle.tunnel.proofs.Steps.{of-choice}
-use Rattle.tunnel.specs.Control.{outcome, done, withSessions, withTimers}
-use Rattle.tunnel.specs.Transport.{beginEncapsulate, finishEncapsulate, grant, send, encrypted, encryptKeepalive}
-use Rattle.tunnel.specs.declared.answer.Answer.the-variants.{No, Granted}
-use Rattle.tunnel.specs.declared.control.Control.{Control}
-use Rattle.tunnel.specs.declared.control.Out.{Out}
-use Rattle.tunnel.specs.declared.transport.Datagram.the-variants.{Skipped, Sent}
-use Rattle.tunnel.specs.declared.transport.Encrypted.{Encrypted}
 use Rattle.window.specs.Window.{limit}
 
 -- what a reservation grants

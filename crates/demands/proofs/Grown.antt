@@ -1,8 +1,8 @@
 -- Every tunnel grown from a creation that is not turned down is sound.
 -- Assumes nothing.
 use mathlib.Core.List.{List, [], _∷_}
-use Rattle.demands.specs.Calls.{Call, World, step, after, Creation, created}
 use Rattle.demands.specs.Calls.Call.{start, restart, send, receive, look, initiation, response, cookie, timeout, event, deadline, missing}
+use Rattle.demands.specs.Calls.{Call, World, step, after, Creation, created}
 use Rattle.demands.specs.Grown.{Grown}
 use Rattle.tunnel.proofs.SoundCalls.{sound-law, created-law}
 use Rattle.tunnel.specs.Sound.{Sound}

@@ -7,32 +7,32 @@ use Prim.Native.Nat.{ℕ, _+_, _^_, _<_}
 use native.Mathlib.Omega.{arith}
 use lib.Dec.{eqb}
 use lib.ListN.{length}
+use Rattle.control.proofs.Responses.{keepalive-sent, confirming-sessions, stored, response-current, response-good}
+use Rattle.control.proofs.SoundSteps.{SoundControl}
+use Rattle.control.proofs.Steps.{of-choice}
+use Rattle.control.specs.Control.{Turn, refuse, done, withSessions}
+use Rattle.control.specs.Messages.{responding, respond, handleHandshakeInitiation, confirming, complete, handleHandshakeResponse}
+use Rattle.control.specs.Transport.{encryptKeepalive}
+use Rattle.control.specs.declared.answer.Answer.the-variants.{Response, Keepalive}
+use Rattle.control.specs.declared.control.Control.{Control}
+use Rattle.control.specs.declared.control.Out.{Out}
+use Rattle.control.specs.declared.transport.Datagram.the-variants.{Sent}
+use Rattle.control.specs.declared.transport.Encrypted.{Encrypted}
 use Rattle.demands.proofs.Changes.{held-inserted}
-use Rattle.demands.proofs.Granting.{Encrypts, encrypts}
 use Rattle.demands.proofs.Granting.Encrypts.{skips, sends}
+use Rattle.demands.proofs.Granting.{Encrypts, encrypts}
 use Rattle.demands.proofs.Known.{Known, known-as, Idle, idle-refused, known-carried, known-confirmed}
 use Rattle.demands.proofs.Moves.{carried-next, carried-current}
 use Rattle.demands.specs.Sending.{Grant, granting}
 use Rattle.parts.specs.Handshake.{caseCompleted, receiveHandshakeInitialization, receiveHandshakeResponse}
-use Rattle.parts.specs.declared.handshake.Completed.{Completed}
 use Rattle.parts.specs.declared.handshake.Completed.the-variants.{Failed, Opened}
+use Rattle.parts.specs.declared.handshake.Completed.{Completed}
 use Rattle.parts.specs.declared.handshake.Handshake.{Handshake}
 use Rattle.sessions.specs.Session.{newSession, withId}
 use Rattle.sessions.specs.Sessions.{currentOf, insert, nextIndex}
 use Rattle.sessions.specs.declared.session.Role.the-variants.{Initiator, Responder}
 use Rattle.sessions.specs.declared.session.Session.{Session}
 use Rattle.sessions.specs.declared.sessions.Found.the-variants.{Got}
-use Rattle.tunnel.proofs.Responses.{keepalive-sent, confirming-sessions, stored, response-current, response-good}
-use Rattle.tunnel.proofs.SoundSteps.{SoundControl}
-use Rattle.tunnel.proofs.Steps.{of-choice}
-use Rattle.tunnel.specs.Control.{Turn, refuse, done, withSessions}
-use Rattle.tunnel.specs.Messages.{responding, respond, handleHandshakeInitiation, confirming, complete, handleHandshakeResponse}
-use Rattle.tunnel.specs.Transport.{encryptKeepalive}
-use Rattle.tunnel.specs.declared.answer.Answer.the-variants.{Response, Keepalive}
-use Rattle.tunnel.specs.declared.control.Control.{Control}
-use Rattle.tunnel.specs.declared.control.Out.{Out}
-use Rattle.tunnel.specs.declared.transport.Datagram.the-variants.{Sent}
-use Rattle.tunnel.specs.declared.transport.Encrypted.{Encrypted}
 
 -- what a handshake message does: nothing is inserted, a session is inserted, or one is inserted that grants its first counter
 pub data Inserts (c : Control) (store : List ℕ) (t : Turn) : Type 0 where

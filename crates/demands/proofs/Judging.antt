@@ -9,6 +9,12 @@ use lib.ListN.{length}
 use borrow.Author.Tests.{eq-eqb, ne-eqb, eqb-true}
 use Rattle.base.proofs.Choice.{yes-eq}
 use Rattle.base.specs.Choice.{choose}
+use Rattle.control.proofs.Steps.{of-choice}
+use Rattle.control.specs.Control.{refuse, done, withSessions}
+use Rattle.control.specs.Transport.{Batched, selecting, accept, batched, committed, committing, commitDecapsulate}
+use Rattle.control.specs.declared.answer.Answer.the-variants.{No, Done}
+use Rattle.control.specs.declared.control.Control.{Control}
+use Rattle.control.specs.declared.control.Out.{Out}
 use Rattle.demands.proofs.Changes.{held-judged}
 use Rattle.demands.proofs.Known.{Known, Idle, idle-refused, known-carried, known-confirmed}
 use Rattle.demands.proofs.Moves.{carried-current}
@@ -18,14 +24,8 @@ use Rattle.sessions.specs.History.{recordedAll}
 use Rattle.sessions.specs.Sessions.{caseFound}
 use Rattle.sessions.specs.Store.{whole}
 use Rattle.sessions.specs.declared.session.Session.{Session}
-use Rattle.sessions.specs.declared.sessions.Found.{Found}
 use Rattle.sessions.specs.declared.sessions.Found.the-variants.{Nothing, Got}
-use Rattle.tunnel.proofs.Steps.{of-choice}
-use Rattle.tunnel.specs.Control.{refuse, done, withSessions}
-use Rattle.tunnel.specs.Transport.{Batched, selecting, accept, batched, committed, committing, commitDecapsulate}
-use Rattle.tunnel.specs.declared.answer.Answer.the-variants.{No, Done}
-use Rattle.tunnel.specs.declared.control.Control.{Control}
-use Rattle.tunnel.specs.declared.control.Out.{Out}
+use Rattle.sessions.specs.declared.sessions.Found.{Found}
 
 -- a session selected, the timers ticked, the first session confirmed
 module _ (n : ℕ) (h : ℕ → List ℕ) (g k : List Grant) (c : Control) (store : List ℕ) (w : Known n h g k c store) (index at now : ℕ) where

@@ -5,6 +5,14 @@ use mathlib.Core.Bool.{Bool, false}
 use mathlib.Core.List.{List, [], _++_}
 use Prim.Native.Nat.{ℕ, _+_}
 use native.Mathlib.Omega.{arith}
+use Rattle.control.proofs.Steps.{of-choice, of-found}
+use Rattle.control.specs.Control.{withHandshake, outcome, refuse, done, queueing, pollEvent, missingReport}
+use Rattle.control.specs.Messages.{initiate, initiating, handleCookieReply, restartHandshake, startHandshake}
+use Rattle.control.specs.Transport.{beginDecapsulate, confirmFirstSession}
+use Rattle.control.specs.declared.answer.Answer.the-variants.{No, Done, NoAnswer, Initiation, Response, Keepalive, Granted, Polled, Deadline, Report}
+use Rattle.control.specs.declared.answer.Answer.{Answer}
+use Rattle.control.specs.declared.control.Control.{Control}
+use Rattle.control.specs.declared.control.Out.{Out}
 use Rattle.demands.proofs.Held.{append-nothing, Held, held-carried, Carried}
 use Rattle.demands.proofs.Moves.{carried-next}
 use Rattle.demands.proofs.Queued.{EventGranted, Queue, queue-push, queue-pop}
@@ -12,23 +20,15 @@ use Rattle.demands.specs.Calls.{World}
 use Rattle.demands.specs.Made.{caseAnswer, inserts}
 use Rattle.demands.specs.Sending.{Grant, answeredGrant}
 use Rattle.parts.specs.Handshake.{caseCookie}
-use Rattle.parts.specs.declared.event.Event.{Event}
 use Rattle.parts.specs.declared.event.Event.the-variants.{Established}
-use Rattle.parts.specs.declared.handshake.Cookie.{Cookie}
+use Rattle.parts.specs.declared.event.Event.{Event}
 use Rattle.parts.specs.declared.handshake.Cookie.the-variants.{Unusable, Stored}
+use Rattle.parts.specs.declared.handshake.Cookie.{Cookie}
 use Rattle.sessions.specs.Sessions.{caseMissing}
 use Rattle.sessions.specs.declared.range.Range.{Range}
 use Rattle.sessions.specs.declared.session.Time.{Time}
-use Rattle.sessions.specs.declared.sessions.Missing.{Missing}
 use Rattle.sessions.specs.declared.sessions.Missing.the-variants.{Refused, Count}
-use Rattle.tunnel.proofs.Steps.{of-choice, of-found}
-use Rattle.tunnel.specs.Control.{withHandshake, outcome, refuse, done, queueing, pollEvent, missingReport}
-use Rattle.tunnel.specs.Messages.{initiate, initiating, handleCookieReply, restartHandshake, startHandshake}
-use Rattle.tunnel.specs.Transport.{beginDecapsulate, confirmFirstSession}
-use Rattle.tunnel.specs.declared.answer.Answer.{Answer}
-use Rattle.tunnel.specs.declared.answer.Answer.the-variants.{No, Done, NoAnswer, Initiation, Response, Keepalive, Granted, Polled, Deadline, Report}
-use Rattle.tunnel.specs.declared.control.Control.{Control}
-use Rattle.tunnel.specs.declared.control.Out.{Out}
+use Rattle.sessions.specs.declared.sessions.Missing.{Missing}
 
 -- after n insertions, with these histories, grants and grants of wakings
 pub record Known (n : ℕ) (h : ℕ → List ℕ) (g k : List Grant) (c : Control) (store : List ℕ) : Type 0 where

@@ -7,12 +7,14 @@ use Prim.Native.Nat.{ℕ, _-_, _<_}
 use lib.ListN.{length}
 use borrow.Author.Tests.{eq-eqb}
 use Rattle.base.specs.Choice.{choose}
+use Rattle.control.specs.Control.{missingReport}
+use Rattle.control.specs.declared.answer.Answer.the-variants.{Report}
 use Rattle.demands.proofs.After.{known-run}
 use Rattle.demands.proofs.Grown.{sound-after, sound-created}
 use Rattle.demands.proofs.Held.{SlotHeld}
 use Rattle.demands.proofs.Known.{Known}
-use Rattle.demands.specs.Calls.{World, step, after, created}
 use Rattle.demands.specs.Calls.Call.{missing}
+use Rattle.demands.specs.Calls.{World, step, after, created}
 use Rattle.demands.specs.Missing.{MissingReport}
 use Rattle.demands.specs.Sending.{Grant}
 use Rattle.sessions.proofs.Judged.{missing-law}
@@ -24,10 +26,8 @@ use Rattle.sessions.specs.declared.sessions.Found.the-variants.{Got}
 use Rattle.sessions.specs.declared.sessions.Missing.the-variants.{Count}
 use Rattle.sessions.specs.declared.sessions.Sessions.{Sessions}
 use Rattle.tunnel.specs.Arguments.{lacking}
-use Rattle.tunnel.specs.Control.{missingReport}
 use Rattle.tunnel.specs.Sound.{Sound}
 use Rattle.tunnel.specs.Tunnel.{timelessGate, settled, timeless, callMissing}
-use Rattle.tunnel.specs.declared.answer.Answer.the-variants.{Report}
 use Rattle.window.specs.History.{amongLast}
 
 module _ (w : World) (n : ℕ) (h : ℕ → List ℕ) (g k : List Grant) (y : Known n h g k (w .tunnel .control) (w .store)) (sound : Sound (w .tunnel))

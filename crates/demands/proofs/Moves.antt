@@ -11,6 +11,7 @@ use lib.ListN.{length, getD, set, length-set, getD-replicate, length-replicate}
 use lib.Seq.{getD-set-same, getD-set-other}
 use borrow.Author.Tests.{eqb-true}
 use Rattle.base.specs.Choice.{choose}
+use Rattle.control.proofs.Steps.{of-choice, of-found}
 use Rattle.demands.proofs.Held.{Carried, carried-same, carried-on, Changed}
 use Rattle.sessions.proofs.Apart.{length-zeros, length-put, kept-other}
 use Rattle.sessions.specs.Batch.{receivingSession}
@@ -21,12 +22,11 @@ use Rattle.sessions.specs.Sessions.{caseFound, caseSelected, slotAt, emptySlots
 use Rattle.sessions.specs.Store.{putSlot, zeros}
 use Rattle.sessions.specs.declared.session.Session.{Session}
 use Rattle.sessions.specs.declared.sessions.Expired.{Expired}
-use Rattle.sessions.specs.declared.sessions.Found.{Found}
 use Rattle.sessions.specs.declared.sessions.Found.the-variants.{Nothing, Got}
-use Rattle.sessions.specs.declared.sessions.Selected.{Selected}
+use Rattle.sessions.specs.declared.sessions.Found.{Found}
 use Rattle.sessions.specs.declared.sessions.Selected.the-variants.{Unset, Index}
+use Rattle.sessions.specs.declared.sessions.Selected.{Selected}
 use Rattle.sessions.specs.declared.sessions.Sessions.{Sessions}
-use Rattle.tunnel.proofs.Steps.{of-choice, of-found}
 
 -- the same slots, whatever the current session and the index allocated last
 pub carried-slots : (s last : Sessions) (store : List ℕ) → last .slots ≡ s .slots → last .inserted ≡ s .inserted → Carried s last store store

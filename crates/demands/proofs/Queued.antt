@@ -9,12 +9,12 @@ use lib.ListN.{length, drop}
 use lib.Seq.{getD-set-same}
 use borrow.Author.Tests.{eq-eqb, ne-eqb}
 use Rattle.base.specs.Choice.{choose}
-use Rattle.demands.specs.Sending.{Grant, Among, still, putLast}
 use Rattle.demands.specs.Sending.Among.{here, there}
+use Rattle.demands.specs.Sending.{Grant, Among, still, putLast}
 use Rattle.parts.proofs.Queue.{queue-of-newest}
 use Rattle.parts.specs.RingBuffer.{holding, placeOf, eventAt, newRing, storeAt, pushBack, popFront, queued, newest, oldest, Ring}
-use Rattle.parts.specs.declared.event.Event.{Event}
 use Rattle.parts.specs.declared.event.Event.the-variants.{Empty, SendKeepalive}
+use Rattle.parts.specs.declared.event.Event.{Event}
 use Rattle.parts.specs.declared.ring_buffer.RingBuffer.{RingBuffer}
 use Rattle.parts.specs.declared.ring_buffer.Slot.{Slot}
 

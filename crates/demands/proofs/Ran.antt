@@ -6,17 +6,17 @@ use mathlib.Core.List.{List}
 use Prim.Native.Nat.{ℕ}
 use lib.Dec.{ltb}
 use Rattle.base.specs.Choice.{choose}
+use Rattle.control.proofs.SoundOperations.{of-missing}
+use Rattle.control.proofs.Steps.{of-choice}
+use Rattle.control.specs.Control.{refuse, pollEvent, missingReport}
+use Rattle.control.specs.declared.control.Out.{Out}
 use Rattle.demands.proofs.Twins.{deadline-still}
-use Rattle.demands.specs.Calls.{Call, World, step}
 use Rattle.demands.specs.Calls.Call.{start, restart, send, receive, look, initiation, response, cookie, timeout, event, deadline, missing}
+use Rattle.demands.specs.Calls.{Call, World, step}
 use Rattle.demands.specs.Wakings.{Ran, took, ran}
 use Rattle.sessions.specs.Session.{timeLimit}
-use Rattle.tunnel.proofs.SoundOperations.{of-missing}
-use Rattle.tunnel.proofs.Steps.{of-choice}
 use Rattle.tunnel.specs.Check.{undamaged}
-use Rattle.tunnel.specs.Control.{refuse, pollEvent, missingReport}
 use Rattle.tunnel.specs.Tunnel.{gate, timelessGate, refused, settled, timed, timeless, kept, timedTurn, timedBatch, callStart, callRestart, callSend, callReceive, callLook, callInitiation, callResponse, callCookie, callTimeout, callEvent, callMissing}
-use Rattle.tunnel.specs.declared.control.Out.{Out}
 use Rattle.tunnel.specs.declared.tunnel.Answered.{Answered}
 use Rattle.tunnel.specs.declared.tunnel.Tunnel.{Tunnel}
 

@@ -9,6 +9,9 @@ use lib.ListN.{length, getD, take}
 use borrow.Author.Tests.{eq-eqb, lt-leb}
 use Rattle.base.proofs.Choice.{no-flag}
 use Rattle.base.specs.Choice.{choose}
+use Rattle.control.specs.Control.{done}
+use Rattle.control.specs.Transport.{committed, committing, commitDecapsulate}
+use Rattle.control.specs.declared.answer.Answer.the-variants.{Done}
 use Rattle.demands.proofs.After.{known-run}
 use Rattle.demands.proofs.Changes.{batch-judged}
 use Rattle.demands.proofs.Known.{Known}
@@ -26,10 +29,7 @@ use Rattle.sessions.specs.declared.sessions.Found.the-variants.{Got}
 use Rattle.sessions.specs.declared.sessions.Sessions.{Sessions}
 use Rattle.tunnel.proofs.Framed.{open-good}
 use Rattle.tunnel.specs.Arguments.{lacking, badBatch}
-use Rattle.tunnel.specs.Control.{done}
-use Rattle.tunnel.specs.Transport.{committed, committing, commitDecapsulate}
 use Rattle.tunnel.specs.Tunnel.{settled, timed, kept, timedBatch, callReceive}
-use Rattle.tunnel.specs.declared.answer.Answer.the-variants.{Done}
 
 -- the session that a live batch finds
 module _ (s : Sessions) (index id now slot : ℕ) (placed : slotIn index ≡ slot) (filled : slotAt s slot .filled ≡ true)

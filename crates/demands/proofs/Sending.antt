@@ -5,29 +5,29 @@ use mathlib.Core.List.{List, []}
 use Prim.Native.Nat.{ℕ, _≤_}
 use native.Mathlib.Omega.{arith}
 use lib.ListN.{length}
+use Rattle.control.proofs.Steps.{of-choice}
+use Rattle.control.specs.Control.{pollEvent}
+use Rattle.control.specs.declared.answer.Answer.the-variants.{Granted, Polled}
+use Rattle.control.specs.declared.control.Out.{Out}
 use Rattle.demands.proofs.After.{known-run}
-use Rattle.demands.proofs.Granting.{Sends, sends-some}
 use Rattle.demands.proofs.Granting.Sends.{none, some}
+use Rattle.demands.proofs.Granting.{Sends, sends-some}
 use Rattle.demands.proofs.Held.{Runs, long-from}
 use Rattle.demands.proofs.Known.{Known}
 use Rattle.demands.proofs.Queued.{queue-polled, put-none}
 use Rattle.demands.proofs.Stepped.{put, pushed, woke-step}
-use Rattle.demands.proofs.Waked.{Waked}
 use Rattle.demands.proofs.Waked.Waked.{silent, queues, grants}
-use Rattle.demands.specs.Calls.{Reply, World, step, after, created}
+use Rattle.demands.proofs.Waked.{Waked}
 use Rattle.demands.specs.Calls.Call.{send, timeout, event}
-use Rattle.demands.specs.Sending.{Grant, Among, currentIn, putBy, upFrom, Sending}
+use Rattle.demands.specs.Calls.{Reply, World, step, after, created}
 use Rattle.demands.specs.Sending.Among.{here, there}
-use Rattle.parts.specs.declared.event.Event.{Event}
+use Rattle.demands.specs.Sending.{Grant, Among, currentIn, putBy, upFrom, Sending}
 use Rattle.parts.specs.declared.event.Event.the-variants.{Empty, SendKeepalive}
+use Rattle.parts.specs.declared.event.Event.{Event}
 use Rattle.sessions.specs.declared.range.Range.{Range}
 use Rattle.sessions.specs.declared.session.Session.{Session}
 use Rattle.sessions.specs.declared.sessions.Found.the-variants.{Got}
-use Rattle.tunnel.proofs.Steps.{of-choice}
-use Rattle.tunnel.specs.Control.{pollEvent}
 use Rattle.tunnel.specs.Tunnel.{refused, settled, timed, timeless, callSend, callEvent}
-use Rattle.tunnel.specs.declared.answer.Answer.the-variants.{Granted, Polled}
-use Rattle.tunnel.specs.declared.control.Out.{Out}
 use Rattle.tunnel.specs.declared.tunnel.Answered.{Answered}
 use Rattle.window.specs.Window.{limit}
 

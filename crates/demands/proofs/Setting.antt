@@ -4,27 +4,27 @@ use mathlib.Core.Path.{_≡_}
 use mathlib.Core.Bool.{Bool}
 use mathlib.Core.List.{List}
 use Prim.Native.Nat.{ℕ}
-use Rattle.demands.specs.Calls.{Call, World, step}
+use Rattle.control.proofs.Opened.{known-completed, known-cookie}
+use Rattle.control.proofs.SoundOperations.{of-missing}
+use Rattle.control.proofs.SoundWaking.{of-datagram}
+use Rattle.control.proofs.Steps.{of-choice, of-found, of-reserved}
+use Rattle.control.proofs.Wakings.{WakingKeeps, of-wake}
+use Rattle.control.specs.Control.{Inner, Turn, refuse, done, queueing, pollEvent, missingReport}
+use Rattle.control.specs.Messages.{responding, respond, handleHandshakeInitiation, confirming, establish, complete, handleHandshakeResponse, handleCookieReply, initiating, initiate, restartHandshake, startHandshake}
+use Rattle.control.specs.Transport as transport
+use Rattle.control.specs.Transport.{beginEncapsulate, finishEncapsulate, grant, encryptKeepalive, confirmFirstSession, selecting, accept, batched, committed, commitDecapsulate, beginDecapsulate}
+use Rattle.control.specs.Waking.{clearAll, expireControl, scheduling, queueKeepalive, persistentKeepalive, keepalives, expireCookie, sendScheduled, handleTimeout}
+use Rattle.control.specs.declared.control.Control.{Control}
+use Rattle.control.specs.declared.control.Out.{Out}
+use Rattle.control.specs.declared.transport.Encrypted.{Encrypted}
 use Rattle.demands.specs.Calls.Call.{start, restart, send, receive, look, initiation, response, cookie, timeout, event, deadline, missing}
+use Rattle.demands.specs.Calls.{Call, World, step}
 use Rattle.parts.specs.Timers.{clearTimers, tickLastHandshakeCompleted, tickLastHandshakeStarted, tickLastPacketReceived, tickLastPacketSent, tickLastDataPacketReceived, tickLastDataPacketSent, tickPersistentKeepalive, scheduleHandshake, cancelScheduledHandshake, consumePassiveKeepalive, tickResponse, tickCompleted, tickInitiation}
 use Rattle.parts.specs.declared.timers.Interval.{Interval}
 use Rattle.parts.specs.declared.timers.Timers.{Timers}
 use Rattle.sessions.specs.declared.batch.Received.{Received}
 use Rattle.sessions.specs.declared.session.Session.{Session}
-use Rattle.tunnel.proofs.Opened.{known-completed, known-cookie}
-use Rattle.tunnel.proofs.SoundOperations.{of-missing}
-use Rattle.tunnel.proofs.SoundWaking.{of-datagram}
-use Rattle.tunnel.proofs.Steps.{of-choice, of-found, of-reserved}
-use Rattle.tunnel.proofs.Wakings.{WakingKeeps, of-wake}
-use Rattle.tunnel.specs.Control.{Inner, Turn, refuse, done, queueing, pollEvent, missingReport}
-use Rattle.tunnel.specs.Messages.{responding, respond, handleHandshakeInitiation, confirming, establish, complete, handleHandshakeResponse, handleCookieReply, initiating, initiate, restartHandshake, startHandshake}
-use Rattle.tunnel.specs.Transport as transport
-use Rattle.tunnel.specs.Transport.{beginEncapsulate, finishEncapsulate, grant, encryptKeepalive, confirmFirstSession, selecting, accept, batched, committed, commitDecapsulate, beginDecapsulate}
 use Rattle.tunnel.specs.Tunnel.{refused, settled, timed, timeless, timedTurn, timedBatch, callStart, callRestart, callSend, callReceive, callLook, callInitiation, callResponse, callCookie, callTimeout, callEvent, callDeadline, callMissing}
-use Rattle.tunnel.specs.Waking.{clearAll, expireControl, scheduling, queueKeepalive, persistentKeepalive, keepalives, expireCookie, sendScheduled, handleTimeout}
-use Rattle.tunnel.specs.declared.control.Control.{Control}
-use Rattle.tunnel.specs.declared.control.Out.{Out}
-use Rattle.tunnel.specs.declared.transport.Encrypted.{Encrypted}
 use Rattle.tunnel.specs.declared.tunnel.Answered.{Answered}
 use Rattle.tunnel.specs.declared.tunnel.Tunnel.{Tunnel}
 

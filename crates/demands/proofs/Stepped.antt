@@ -9,45 +9,45 @@ use lib.Dec.{eqb}
 use borrow.Author.Tests.{eqb-true, eqb-false}
 use Rattle.base.proofs.Choice.{yes-eq, no-eq}
 use Rattle.base.specs.Choice.{choose}
-use Rattle.demands.proofs.Granting.{Sends, sends-some}
+use Rattle.control.proofs.SoundSteps.{sound-later}
+use Rattle.control.proofs.Steps.{of-choice}
+use Rattle.control.specs.Answer.{numberOf}
+use Rattle.control.specs.Control.{Turn, refuse, done}
+use Rattle.control.specs.Transport.{Batched}
+use Rattle.control.specs.Waking.{handleTimeout}
+use Rattle.control.specs.declared.answer.Answer.the-variants.{No, Done}
+use Rattle.control.specs.declared.answer.Answer.{Answer}
+use Rattle.control.specs.declared.control.Control.{Control}
+use Rattle.control.specs.declared.control.Out.{Out}
 use Rattle.demands.proofs.Granting.Sends.{none, some}
+use Rattle.demands.proofs.Granting.{Sends, sends-some}
 use Rattle.demands.proofs.Held.{append-nothing, SlotHeld}
-use Rattle.demands.proofs.Inserting.{Inserts, inserts-initiation, inserts-response}
 use Rattle.demands.proofs.Inserting.Inserts.{nothing, responds, completes}
-use Rattle.demands.proofs.Judging.{Judged, judged-batch}
+use Rattle.demands.proofs.Inserting.{Inserts, inserts-initiation, inserts-response}
 use Rattle.demands.proofs.Judging.Judged.{turned, taken}
+use Rattle.demands.proofs.Judging.{Judged, judged-batch}
 use Rattle.demands.proofs.Known.{Known, Plain, plain-of, known-as, known-same, Idle, idle-refused, idle-start, idle-restart, idle-look, idle-cookie, idle-event, idle-deadline, idle-missing}
 use Rattle.demands.proofs.Queued.{EventGranted, queue-later, queue-push, put-none, put-pushed, among-last}
-use Rattle.demands.proofs.Waked.{Waked, From, woken}
 use Rattle.demands.proofs.Waked.Waked.{silent, queues, grants}
-use Rattle.demands.specs.Calls.{Call, World, Reply, stored, judged, step}
+use Rattle.demands.proofs.Waked.{Waked, From, woken}
 use Rattle.demands.specs.Calls.Call.{start, restart, send, receive, look, initiation, response, cookie, timeout, event, deadline, missing}
+use Rattle.demands.specs.Calls.{Call, World, Reply, stored, judged, step}
 use Rattle.demands.specs.Made.{caseBatch, caseWaking, caseAnswer, inserts}
 use Rattle.demands.specs.Receiving.{committing}
 use Rattle.demands.specs.Sending.{Grant, granting, currentIn, putLast, keepaliveBy, wokenGrant, answeredGrant}
 use Rattle.parts.specs.Event.{caseEvent}
 use Rattle.parts.specs.RingBuffer.{pushBack}
-use Rattle.parts.specs.declared.event.Event.{Event}
 use Rattle.parts.specs.declared.event.Event.the-variants.{Empty, SendKeepalive}
+use Rattle.parts.specs.declared.event.Event.{Event}
 use Rattle.sessions.specs.History.{recordedAll}
 use Rattle.sessions.specs.Sessions.{caseFound, currentOf}
 use Rattle.sessions.specs.declared.session.Session.{Session}
 use Rattle.sessions.specs.declared.sessions.Found.the-variants.{Got}
 use Rattle.tunnel.proofs.Framed.{open-onward}
 use Rattle.tunnel.proofs.SoundCalls.{its-control}
-use Rattle.tunnel.proofs.SoundSteps.{sound-later}
-use Rattle.tunnel.proofs.Steps.{of-choice}
-use Rattle.tunnel.specs.Answer.{numberOf}
 use Rattle.tunnel.specs.Arguments.{initiationOutcome, openingOutcome}
-use Rattle.tunnel.specs.Control.{Turn, refuse, done}
 use Rattle.tunnel.specs.Sound.{Sound}
-use Rattle.tunnel.specs.Transport.{Batched}
 use Rattle.tunnel.specs.Tunnel.{Called, CalledBatch, gate, refused, settled, timed, timeless, kept, timedTurn, timedBatch, callStart, callRestart, callSend, callReceive, callLook, callInitiation, callResponse, callCookie, callTimeout, callEvent, callDeadline, callMissing}
-use Rattle.tunnel.specs.Waking.{handleTimeout}
-use Rattle.tunnel.specs.declared.answer.Answer.{Answer}
-use Rattle.tunnel.specs.declared.answer.Answer.the-variants.{No, Done}
-use Rattle.tunnel.specs.declared.control.Control.{Control}
-use Rattle.tunnel.specs.declared.control.Out.{Out}
 use Rattle.tunnel.specs.declared.tunnel.Answered.{Answered}
 
 -- what is known after a call

@@ -8,28 +8,28 @@ use native.Mathlib.Omega.{arith}
 use lib.Dec.{ltb}
 use borrow.Author.Tests.{ltb-true, ltb-false, lt-ltb, le-ltb}
 use Rattle.base.specs.Choice.{choose}
-use Rattle.demands.specs.Calls.{Call, World, Reply, plain, stored, judged, step}
+use Rattle.control.specs.Control.{Turn, expiredControl, pollEvent, missingReport}
+use Rattle.control.specs.Deadlines.{nextDeadline, notBefore, pollTimeout}
+use Rattle.control.specs.Messages.{startHandshake, restartHandshake, handleHandshakeInitiation, handleHandshakeResponse, handleCookieReply}
+use Rattle.control.specs.Transport as transport
+use Rattle.control.specs.Waking.{handleTimeout}
+use Rattle.control.specs.declared.answer.Answer.the-variants.{Deadline}
+use Rattle.control.specs.declared.answer.Answer.{Answer}
+use Rattle.control.specs.declared.control.Control.{Control}
+use Rattle.control.specs.declared.control.Out.{Out}
 use Rattle.demands.specs.Calls.Call.{start, restart, send, receive, look, initiation, response, cookie, timeout, event, deadline, missing}
-use Rattle.demands.specs.Wakings.{timeOf, NotEarlier, Alike, Same}
+use Rattle.demands.specs.Calls.{Call, World, Reply, plain, stored, judged, step}
 use Rattle.demands.specs.Wakings.Alike.{equal, come}
+use Rattle.demands.specs.Wakings.{timeOf, NotEarlier, Alike, Same}
 use Rattle.parts.specs.RingBuffer.{ringIsEmpty}
 use Rattle.sessions.specs.Session.{caseTime}
-use Rattle.sessions.specs.declared.session.Time.{Time}
 use Rattle.sessions.specs.declared.session.Time.the-variants.{Never, At}
+use Rattle.sessions.specs.declared.session.Time.{Time}
+use Rattle.tunnel.proofs.Deadline.{deadline-law}
 use Rattle.tunnel.proofs.Facts.{undamaged-facts}
-use Rattle.tunnel.proofs.Quiet.{deadline-law}
 use Rattle.tunnel.specs.Arguments.{openingOutcome, initiationOutcome, lacking, badOutcome, badJitter, badBatch}
 use Rattle.tunnel.specs.Check.{undamaged}
-use Rattle.tunnel.specs.Control.{Turn, expiredControl, pollEvent, missingReport}
-use Rattle.tunnel.specs.Deadlines.{nextDeadline, notBefore, pollTimeout}
-use Rattle.tunnel.specs.Messages.{startHandshake, restartHandshake, handleHandshakeInitiation, handleHandshakeResponse, handleCookieReply}
-use Rattle.tunnel.specs.Transport as transport
 use Rattle.tunnel.specs.Tunnel.{gate, timelessGate, refused, settled, timed, timeless, kept, timedTurn, timedBatch, callStart, callRestart, callSend, callReceive, callLook, callInitiation, callResponse, callCookie, callTimeout, callEvent, callDeadline, callMissing}
-use Rattle.tunnel.specs.Waking.{handleTimeout}
-use Rattle.tunnel.specs.declared.answer.Answer.{Answer}
-use Rattle.tunnel.specs.declared.answer.Answer.the-variants.{Deadline}
-use Rattle.tunnel.specs.declared.control.Control.{Control}
-use Rattle.tunnel.specs.declared.control.Out.{Out}
 use Rattle.tunnel.specs.declared.tunnel.Answered.{Answered}
 use Rattle.tunnel.specs.declared.tunnel.Tunnel.{Tunnel}
 

@@ -6,8 +6,15 @@ use mathlib.Core.List.{List, [], _∷_, _++_}
 use Prim.Native.Nat.{ℕ}
 use native.Mathlib.Omega.{arith}
 use lib.ListN.{length}
-use Rattle.demands.proofs.Granting.{Encrypts, encrypts}
+use Rattle.control.proofs.Steps.{of-choice, of-found}
+use Rattle.control.specs.Control.{Inner, withSessions, queueing}
+use Rattle.control.specs.Messages.{initiate, initiating}
+use Rattle.control.specs.Transport.{caseDatagram, encryptKeepalive}
+use Rattle.control.specs.Waking.{inner, clearAll, expireControl, scheduling, queueKeepalive, persistentKeepalive, keepalives, wakeIdle, wakeInProgress, expireCookie, wakeLater, wakeRest, wakeCurrent, wakeSessions, sendScheduled, wake}
+use Rattle.control.specs.declared.control.Control.{Control}
+use Rattle.control.specs.declared.transport.Encrypted.{Encrypted}
 use Rattle.demands.proofs.Granting.Encrypts.{skips, sends}
+use Rattle.demands.proofs.Granting.{Encrypts, encrypts}
 use Rattle.demands.proofs.Held.{Held, held-carried}
 use Rattle.demands.proofs.Known.{Known}
 use Rattle.demands.proofs.Moves.{carried-next, Thinned, thinned-expire, thinned-clear}
@@ -15,24 +22,17 @@ use Rattle.demands.proofs.Queued.{EventGranted}
 use Rattle.demands.specs.Sending.{Grant, granting, keepaliveBy}
 use Rattle.parts.specs.Event.{caseEvent}
 use Rattle.parts.specs.RingBuffer.{pushBack}
-use Rattle.parts.specs.declared.event.Event.{Event}
 use Rattle.parts.specs.declared.event.Event.the-variants.{SendHandshakeInitiation, SendKeepalive, ConnectionExpired}
+use Rattle.parts.specs.declared.event.Event.{Event}
 use Rattle.parts.specs.declared.ring_buffer.RingBuffer.{RingBuffer}
 use Rattle.sessions.specs.Session.{caseTime}
 use Rattle.sessions.specs.Sessions.{currentOf, expire, clear}
 use Rattle.sessions.specs.declared.session.Session.{Session}
-use Rattle.sessions.specs.declared.session.Time.{Time}
 use Rattle.sessions.specs.declared.session.Time.the-variants.{Never, At}
-use Rattle.sessions.specs.declared.sessions.Found.{Found}
+use Rattle.sessions.specs.declared.session.Time.{Time}
 use Rattle.sessions.specs.declared.sessions.Found.the-variants.{Got}
+use Rattle.sessions.specs.declared.sessions.Found.{Found}
 use Rattle.sessions.specs.declared.sessions.Sessions.{Sessions}
-use Rattle.tunnel.proofs.Steps.{of-choice, of-found}
-use Rattle.tunnel.specs.Control.{Inner, withSessions, queueing}
-use Rattle.tunnel.specs.Messages.{initiate, initiating}
-use Rattle.tunnel.specs.Transport.{caseDatagram, encryptKeepalive}
-use Rattle.tunnel.specs.Waking.{inner, clearAll, expireControl, scheduling, queueKeepalive, persistentKeepalive, keepalives, wakeIdle, wakeInProgress, expireCookie, wakeLater, wakeRest, wakeCurrent, wakeSessions, sendScheduled, wake}
-use Rattle.tunnel.specs.declared.control.Control.{Control}
-use Rattle.tunnel.specs.declared.transport.Encrypted.{Encrypted}
 
 -- an event that is no grant
 pub record Ungranted (event : Event) : Type 0 where

@@ -9,12 +9,24 @@ use native.Mathlib.Omega.{arith}
 use lib.Dec.{ltb, leb, eqb}
 use borrow.Author.Tests.{le-ltb, lt-leb, eqb-true}
 use Rattle.base.specs.Choice.{choose}
+use Rattle.control.proofs.Quiet.{quiet-law}
+use Rattle.control.proofs.Steps.{of-found, of-reserved}
+use Rattle.control.specs.Control.{Inner, Turn, newControl, refuse, done, expiredControl}
+use Rattle.control.specs.Deadlines.{nextDeadline, notBefore, pollTimeout}
+use Rattle.control.specs.Quiet.{Early}
+use Rattle.control.specs.Transport as transport
+use Rattle.control.specs.Transport.{grant, finishEncapsulate}
+use Rattle.control.specs.Waking.{handleTimeout}
+use Rattle.control.specs.declared.answer.Answer.the-variants.{No, Done, Deadline}
+use Rattle.control.specs.declared.answer.Answer.{Answer}
+use Rattle.control.specs.declared.control.Control.{Control}
+use Rattle.control.specs.declared.control.Out.{Out}
 use Rattle.demands.proofs.Grown.{sound-created, sound-step}
 use Rattle.demands.proofs.Ran.{ranOf, ran-step}
 use Rattle.demands.proofs.Setting.{setting-stays}
 use Rattle.demands.proofs.Twins.{Twins, Pair, calls-alike}
-use Rattle.demands.specs.Calls.{Call, World, step, after, Creation, created, Good}
 use Rattle.demands.specs.Calls.Call.{timeout}
+use Rattle.demands.specs.Calls.{Call, World, step, after, Creation, created, Good}
 use Rattle.demands.specs.Wakings.{Step, shared, extra, plainCalls, wokenCalls, Ran, ran, ranAfter, ranNew, Current, Expired, BeforeDeadline, NotEarlier, ComesEarly, CurrentOrUnset, InOrder, Admissible, Same, CreatedAlike, ExtraWakingsLaw}
 use Rattle.parts.specs.RingBuffer.{ringIsEmpty}
 use Rattle.parts.specs.Timers.{newTimers}
@@ -22,26 +34,15 @@ use Rattle.parts.specs.declared.timers.Interval.the-variants.{Off}
 use Rattle.sessions.specs.Session.{caseTime, dueBy, timeLimit}
 use Rattle.sessions.specs.Store.{zeros}
 use Rattle.sessions.specs.declared.session.Session.{Session}
-use Rattle.sessions.specs.declared.session.Time.{Time}
 use Rattle.sessions.specs.declared.session.Time.the-variants.{Never, At}
+use Rattle.sessions.specs.declared.session.Time.{Time}
+use Rattle.tunnel.proofs.Deadline.{deadline-law}
 use Rattle.tunnel.proofs.Facts.{undamaged-facts}
 use Rattle.tunnel.proofs.Framed.{open-onward}
-use Rattle.tunnel.proofs.Quiet.{quiet-law, deadline-law}
-use Rattle.tunnel.proofs.Steps.{of-found, of-reserved}
 use Rattle.tunnel.specs.Arguments.{intervalOf, badJitter, creationNumber}
 use Rattle.tunnel.specs.Check.{undamaged}
-use Rattle.tunnel.specs.Control.{Inner, Turn, newControl, refuse, done, expiredControl}
-use Rattle.tunnel.specs.Deadlines.{nextDeadline, notBefore, pollTimeout}
-use Rattle.tunnel.specs.Quiet.{Early}
 use Rattle.tunnel.specs.Sound.{Sound}
-use Rattle.tunnel.specs.Transport as transport
-use Rattle.tunnel.specs.Transport.{grant, finishEncapsulate}
 use Rattle.tunnel.specs.Tunnel.{made, gate, refused, settled, timed, kept, timedTurn, Called, callNew, callSend, callTimeout}
-use Rattle.tunnel.specs.Waking.{handleTimeout}
-use Rattle.tunnel.specs.declared.answer.Answer.{Answer}
-use Rattle.tunnel.specs.declared.answer.Answer.the-variants.{No, Done, Deadline}
-use Rattle.tunnel.specs.declared.control.Control.{Control}
-use Rattle.tunnel.specs.declared.control.Out.{Out}
 use Rattle.tunnel.specs.declared.tunnel.Tunnel.{Tunnel}
 
 -- a tunnel that would give 11 is expired: no other way of sending gives it

@@ -7,11 +7,21 @@ use mathlib.Core.Logic.{_⊎_, inl, inr, ⊎-elim}
 use Prim.Native.Nat.{ℕ}
 use native.Mathlib.Omega.{arith}
 use Rattle.base.specs.Choice.{choose}
+use Rattle.control.specs.Answer.{numberOf}
+use Rattle.control.specs.Check.{storedHolds, controlHolds}
+use Rattle.control.specs.Control.{newControl, refuse, done, expiredControl, queueing, pollEvent}
+use Rattle.control.specs.Deadlines.{scheduledHandshake, earliestExpiry, cookieDeadline, rejectDeadline, attemptDeadline, handshakeRekeyTimeout, rekeyOnSend, rekeyAfterMessages, rekeyOnReceive, responseDeadline, passiveDeadline, persistentDeadline, currentPersistentDeadline, commonDeadline, rekeyDeadline, keepaliveDeadline, unscheduledDeadline, nextDeadline, notBefore, pollTimeout}
+use Rattle.control.specs.Messages.{confirming, establish, complete, handleHandshakeResponse, initiating, initiate, restartHandshake, startHandshake}
+use Rattle.control.specs.Transport as transport
+use Rattle.control.specs.Transport.{caseDatagram, beginEncapsulate, finishEncapsulate, grant, encryptKeepalive, confirmFirstSession}
+use Rattle.control.specs.Waking.{clearAll, expireControl, scheduling, queueKeepalive, persistentKeepalive, keepalives, rekeyDue, wakeIdle, wakeInProgress, expireCookie, wakeLater, wakeRest, isLost, isReplaced, wakeCurrent, wakeSessions, sendScheduled, wake, handleTimeout}
+use Rattle.control.specs.declared.answer.Answer.the-variants.{No, Initiation, Polled, Deadline}
+use Rattle.control.specs.declared.answer.Answer.{Answer}
 use Rattle.demands.proofs.Admits.{isEleven, isAbove, testExpired, testEarly, early-is, testHeld, held-is, noneEarlier, testOrder, order-is}
-use Rattle.demands.specs.Calls.{Call, Good, step, after, created}
 use Rattle.demands.specs.Calls.Call.{start, response, timeout, event, deadline}
-use Rattle.demands.specs.Wakings.{Step, shared, extra, plainCalls, wokenCalls, took, ran, ranNew, Expired, timeOf, Alike, Agree, CreatedAlike}
+use Rattle.demands.specs.Calls.{Call, Good, step, after, created}
 use Rattle.demands.specs.Wakings.Alike.{equal, come}
+use Rattle.demands.specs.Wakings.{Step, shared, extra, plainCalls, wokenCalls, took, ran, ranNew, Expired, timeOf, Alike, Agree, CreatedAlike}
 use Rattle.demands.specs.WakingsExample.{creation, established, used, lost, example, plainAfter, wokenAfter, ExtraWakingsExample, late, unheld, disordered, ConditionsNeeded}
 use Rattle.parts.specs.Check.{timeHolds, stateHolds, inRange, intervalHolds, bothAtMost, eventHolds, slotHolds, slotsHold, queueHolds, eventsHold, handshakeHolds, packetTimersHold, dataTimersHold, fieldsHold, timersHold}
 use Rattle.parts.specs.Event.{caseEvent}
@@ -23,20 +33,11 @@ use Rattle.sessions.specs.Index.{wrappingIncrement}
 use Rattle.sessions.specs.Session.{caseTime, caseRole, caseReserved, dueBy, least, earlier, newSession, emptySession, rekeyAfterTimeOnSend, rejectAfterTimeOnReceive, expiresAt, expiredAt, shouldUseAt, rekeyAfterMessagesReached, sendingCounterExhausted, preparePacketData, reserveCounters}
 use Rattle.sessions.specs.Sessions.{caseFound, caseSelected, emptySlots, newSessions, inSlotOf, get, put, currentOf, inCurrentSlot, indexAfter, nextIndex, inserting, insert, usable, sendingSession, isIndex, select, setCurrent, clear, emptied, expiredSlot, discard, expireSlot, expireFirst, expire, noneFilled, slotExpiry, firstExpiry}
 use Rattle.sessions.specs.Store.{putSlot, zeros}
-use Rattle.sessions.specs.declared.session.Time.{Time}
 use Rattle.sessions.specs.declared.session.Time.the-variants.{At}
-use Rattle.tunnel.specs.Answer.{numberOf}
+use Rattle.sessions.specs.declared.session.Time.{Time}
 use Rattle.tunnel.specs.Arguments.{intervalOf, openingOutcome, lacking, badOutcome, badJitter, creationNumber}
-use Rattle.tunnel.specs.Check.{storedHolds, controlHolds, undamaged}
-use Rattle.tunnel.specs.Control.{newControl, refuse, done, expiredControl, queueing, pollEvent}
-use Rattle.tunnel.specs.Deadlines.{scheduledHandshake, earliestExpiry, cookieDeadline, rejectDeadline, attemptDeadline, handshakeRekeyTimeout, rekeyOnSend, rekeyAfterMessages, rekeyOnReceive, responseDeadline, passiveDeadline, persistentDeadline, currentPersistentDeadline, commonDeadline, rekeyDeadline, keepaliveDeadline, unscheduledDeadline, nextDeadline, notBefore, pollTimeout}
-use Rattle.tunnel.specs.Messages.{confirming, establish, complete, handleHandshakeResponse, initiating, initiate, restartHandshake, startHandshake}
-use Rattle.tunnel.specs.Transport as transport
-use Rattle.tunnel.specs.Transport.{caseDatagram, beginEncapsulate, finishEncapsulate, grant, encryptKeepalive, confirmFirstSession}
+use Rattle.tunnel.specs.Check.{undamaged}
 use Rattle.tunnel.specs.Tunnel.{made, gate, timelessGate, refused, settled, timed, timeless, kept, timedTurn, callNew, callStart, callSend, callResponse, callTimeout, callEvent, callDeadline}
-use Rattle.tunnel.specs.Waking.{clearAll, expireControl, scheduling, queueKeepalive, persistentKeepalive, keepalives, rekeyDue, wakeIdle, wakeInProgress, expireCookie, wakeLater, wakeRest, isLost, isReplaced, wakeCurrent, wakeSessions, sendScheduled, wake, handleTimeout}
-use Rattle.tunnel.specs.declared.answer.Answer.{Answer}
-use Rattle.tunnel.specs.declared.answer.Answer.the-variants.{No, Initiation, Polled, Deadline}
 
 -- what the two tunnels, with a keepalive of so many seconds, answer to a call after some steps
 abbrev plainAnswer : ℕ → List Step → Call → Answer

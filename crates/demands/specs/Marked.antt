@@ -4,18 +4,18 @@ use mathlib.Core.List.{List, [], _∷_}
 use Prim.Native.Nat.{ℕ, zero, suc, _-_}
 use lib.Dec.{eqb}
 use Rattle.base.specs.Choice.{choose}
+use Rattle.control.specs.Answer.Word.{turned, bare, none, init, resp, key, est, exp, at}
+use Rattle.control.specs.Answer.{Word, eventValues, wordOf, valuesOf}
+use Rattle.control.specs.declared.answer.Answer.{Answer}
 use Rattle.parts.specs.RingBuffer.{newRing, pushBack, popFront}
 use Rattle.parts.specs.declared.event.Event.the-variants.{SendHandshakeInitiation}
 use Rattle.parts.specs.declared.ring_buffer.RingBuffer.{RingBuffer}
 use Rattle.sessions.specs.Session.{caseReserved, newSession, withCounter, reserveCounters}
 use Rattle.sessions.specs.Sessions.{caseFound, newSessions, nextIndex, inserting, select, sendingSession}
 use Rattle.sessions.specs.Store.{zeros}
-use Rattle.sessions.specs.declared.session.Role.{Role}
 use Rattle.sessions.specs.declared.session.Role.the-variants.{Initiator, Responder}
-use Rattle.tunnel.specs.Answer.{Word, eventValues, wordOf, valuesOf}
-use Rattle.tunnel.specs.Answer.Word.{turned, bare, none, init, resp, key, est, exp, at}
+use Rattle.sessions.specs.declared.session.Role.{Role}
 use Rattle.tunnel.specs.Tunnel.{callNew, callTimeout, callEvent, callDeadline}
-use Rattle.tunnel.specs.declared.answer.Answer.{Answer}
 use Rattle.tunnel.specs.declared.tunnel.Tunnel.{Tunnel}
 use Rattle.window.specs.History.{Window, verdict, given}
 use Rattle.window.specs.Window.{limit, empty, setBit}

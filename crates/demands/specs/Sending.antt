@@ -6,21 +6,21 @@ use Prim.Native.Nat.{ℕ, zero, suc, _-_, _^_, _≤_, _<_}
 use lib.Dec.{eqb}
 use lib.ListN.{length}
 use Rattle.base.specs.Choice.{choose}
-use Rattle.demands.specs.Calls.{Call, World, Reply, step, after, Creation, created, Good}
+use Rattle.control.specs.declared.answer.Answer.the-variants.{Granted, Polled}
+use Rattle.control.specs.declared.answer.Answer.{Answer}
 use Rattle.demands.specs.Calls.Call.{send, timeout, event}
+use Rattle.demands.specs.Calls.{Call, World, Reply, step, after, Creation, created, Good}
 use Rattle.demands.specs.Made.{Made, made, caseWaking, caseAnswer, insertions}
 use Rattle.parts.specs.Event.{caseEvent}
 use Rattle.parts.specs.RingBuffer.{placeOf, eventAt}
-use Rattle.parts.specs.declared.event.Event.{Event}
 use Rattle.parts.specs.declared.event.Event.the-variants.{Empty, SendKeepalive}
+use Rattle.parts.specs.declared.event.Event.{Event}
 use Rattle.parts.specs.declared.ring_buffer.RingBuffer.{RingBuffer}
 use Rattle.sessions.specs.Sessions.{caseFound, currentOf}
 use Rattle.sessions.specs.declared.range.Range.{Range}
 use Rattle.sessions.specs.declared.session.Session.{Session}
-use Rattle.sessions.specs.declared.sessions.Found.{Found}
 use Rattle.sessions.specs.declared.sessions.Found.the-variants.{Got}
-use Rattle.tunnel.specs.declared.answer.Answer.{Answer}
-use Rattle.tunnel.specs.declared.answer.Answer.the-variants.{Granted, Polled}
+use Rattle.sessions.specs.declared.sessions.Found.{Found}
 use Rattle.window.specs.Window.{limit}
 
 -- a grant: a session's id, its peer's index, and consecutive counters

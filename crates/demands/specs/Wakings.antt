@@ -7,24 +7,24 @@ use mathlib.Core.Logic.{_⊎_}
 use Prim.Native.Nat.{ℕ, _≤_, _<_}
 use lib.Dec.{ltb, eqb}
 use Rattle.base.specs.Choice.{choose}
-use Rattle.demands.specs.Calls.{Call, World, Reply, step, after, Creation, created, Good}
+use Rattle.control.specs.Control.{newControl, pollEvent}
+use Rattle.control.specs.Messages.{startHandshake, restartHandshake, handleHandshakeInitiation, handleHandshakeResponse, handleCookieReply}
+use Rattle.control.specs.Transport as transport
+use Rattle.control.specs.Waking.{handleTimeout}
+use Rattle.control.specs.declared.answer.Answer.the-variants.{No, Deadline}
+use Rattle.control.specs.declared.answer.Answer.{Answer}
+use Rattle.control.specs.declared.control.Control.{Control}
+use Rattle.control.specs.declared.control.Out.{Out}
 use Rattle.demands.specs.Calls.Call.{start, restart, send, receive, look, initiation, response, cookie, timeout, event, deadline, missing}
+use Rattle.demands.specs.Calls.{Call, World, Reply, step, after, Creation, created, Good}
 use Rattle.sessions.specs.Session.{timeLimit}
 use Rattle.sessions.specs.Sessions.{currentOf}
 use Rattle.sessions.specs.Store.{zeros}
 use Rattle.sessions.specs.declared.session.Session.{Session}
-use Rattle.sessions.specs.declared.session.Time.{Time}
 use Rattle.sessions.specs.declared.session.Time.the-variants.{Never, At}
+use Rattle.sessions.specs.declared.session.Time.{Time}
 use Rattle.sessions.specs.declared.sessions.Found.the-variants.{Got}
 use Rattle.tunnel.specs.Arguments.{intervalOf, openingOutcome, initiationOutcome, lacking, badOutcome, badJitter, badBatch}
-use Rattle.tunnel.specs.Control.{newControl, pollEvent}
-use Rattle.tunnel.specs.Messages.{startHandshake, restartHandshake, handleHandshakeInitiation, handleHandshakeResponse, handleCookieReply}
-use Rattle.tunnel.specs.Transport as transport
-use Rattle.tunnel.specs.Waking.{handleTimeout}
-use Rattle.tunnel.specs.declared.answer.Answer.{Answer}
-use Rattle.tunnel.specs.declared.answer.Answer.the-variants.{No, Deadline}
-use Rattle.tunnel.specs.declared.control.Control.{Control}
-use Rattle.tunnel.specs.declared.control.Out.{Out}
 
 -- a shared call, or an extra waking of the woken tunnel
 pub data Step : Type 0 where

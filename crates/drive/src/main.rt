@@ -1,4 +1,5 @@
 // Reads calls from standard input, one a line, and writes one line for each to standard output.
+use control::answer::Answer;
 use libc::STDIN_FILENO;
 use libc::STDOUT_FILENO;
 use script::answer::put_line;
@@ -9,7 +10,6 @@ use script::line::Line;
 use script::line::admitted;
 use script::line::read;
 use script::line::starts;
-use tunnel::answer::Answer;
 use tunnel::tunnel::Answered;
 use tunnel::tunnel::Tunnel;
 ghost use Prim.Native.Nat.{_≤_};

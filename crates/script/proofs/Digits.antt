@@ -11,9 +11,9 @@ use lib.ListN.{length, getD, set, drop, length-set, drop-of-length-le}
 use lib.Seq.{drop-cons, drop-set-lt, getD-set-same}
 use borrow.Author.Tests.{lt-ltb, le-ltb, eq-eqb, ne-eqb, eqb-true}
 use Rattle.base.specs.Choice.{choose}
-use Rattle.script.specs.declared.word.Number.{Number}
-use Rattle.script.specs.declared.word.Number.the-variants.{Unreadable, Value}
 use Rattle.script.specs.Number.{greatest, withDigit, caseNumber, numberFrom, numberOf, digitsFrom, digitsOf, Spelt, ReadsBack}
+use Rattle.script.specs.declared.word.Number.the-variants.{Unreadable, Value}
+use Rattle.script.specs.declared.word.Number.{Number}
 
 -- one more byte: the ways of `with_digit`
 module _ (value byte : ℕ) where

@@ -5,8 +5,8 @@ use Prim.Native.Nat.{ℕ, zero, suc, _+_, _-_, _*_, _/_, _%_, _≤_}
 use lib.Dec.{ltb, eqb}
 use lib.ListN.{length, drop}
 use Rattle.base.specs.Choice.{choose}
-use Rattle.script.specs.declared.word.Number.{Number}
 use Rattle.script.specs.declared.word.Number.the-variants.{Unreadable, Value}
+use Rattle.script.specs.declared.word.Number.{Number}
 
 -- the greatest number that 64 bits hold
 abbrev pub greatest : ℕ

@@ -3,11 +3,11 @@ use crate::line::Line;
 use crate::text::put;
 use crate::text::put_number;
 use crate::text::put_text;
+use control::answer::Answer;
 use parts::event::Event;
 use sessions::range::Range;
 use sessions::range::Split;
 use sessions::session::Time;
-use tunnel::answer::Answer;
 
 // Puts a word and a number.
 fn put_one(out: &mut [u8], at: usize, word: &[u8], n: u64) -> usize {

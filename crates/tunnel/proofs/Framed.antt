@@ -10,22 +10,22 @@ use lib.ListN.{length}
 use borrow.Author.Tests.{ltb-false, eqb-true, eq-eqb, ne-eqb}
 use Rattle.base.proofs.Choice.{yes-eq, no-eq}
 use Rattle.base.specs.Choice.{choose}
+use Rattle.control.specs.Control.{Turn, outcome}
+use Rattle.control.specs.Deadlines.{pollTimeout}
+use Rattle.control.specs.Facts.{ControlWithin}
+use Rattle.control.specs.Messages.{handleHandshakeInitiation, handleHandshakeResponse, handleCookieReply}
+use Rattle.control.specs.Transport.{Batched, Commits}
+use Rattle.control.specs.declared.answer.Answer.the-variants.{Done, Deadline}
+use Rattle.control.specs.declared.control.Out.{Out}
 use Rattle.parts.specs.RingBuffer.{RingWithin}
 use Rattle.parts.specs.Timers.{maxJitter, greatestInterval}
 use Rattle.sessions.specs.Session.{timeLimit}
 use Rattle.sessions.specs.Store.{Leaves, whole, zeros}
 use Rattle.sessions.specs.declared.session.Time.{Time}
-use Rattle.tunnel.proofs.Later.{let-through}
+use Rattle.tunnel.proofs.Facts.{let-through}
 use Rattle.tunnel.specs.Arguments.{openingOutcome, initiationOutcome, lacking, badOutcome, badJitter, creationNumber}
 use Rattle.tunnel.specs.Check.{undamaged}
-use Rattle.tunnel.specs.Control.{Turn, outcome}
-use Rattle.tunnel.specs.Deadlines.{pollTimeout}
-use Rattle.tunnel.specs.Facts.{ControlWithin}
-use Rattle.tunnel.specs.Messages.{handleHandshakeInitiation, handleHandshakeResponse, handleCookieReply}
-use Rattle.tunnel.specs.Transport.{Batched, Commits}
 use Rattle.tunnel.specs.Tunnel.{answered, made, gate, timelessGate, refused, settled, timed, timeless, kept, timedTurn, timedBatch, LeavesBatch, callNew, callInitiation, callResponse, callCookie, callDeadline}
-use Rattle.tunnel.specs.declared.answer.Answer.the-variants.{Done, Deadline}
-use Rattle.tunnel.specs.declared.control.Out.{Out}
 use Rattle.tunnel.specs.declared.tunnel.Answered.{Answered}
 use Rattle.tunnel.specs.declared.tunnel.Tunnel.{Tunnel}
 

@@ -9,27 +9,27 @@ use lib.Dec.{eqb}
 use lib.ListN.{length}
 use borrow.Author.Tests.{eqb-true, eqb-false}
 use Rattle.base.specs.Choice.{choose}
+use Rattle.control.proofs.Kept.{never-within, on-new, on-new-handshake, on-new-ring}
+use Rattle.control.proofs.SoundOperations.{SoundOut, SoundStill, unraising, restart-sound, start-sound, send-sound, batch-sound, look-sound, cookie-sound, response-sound, timeout-sound, event-sound, missing-sound, initiation-sound}
+use Rattle.control.proofs.SoundSteps.{known-choice, SoundControl, eight-empty}
+use Rattle.control.proofs.Steps.{all-empty}
+use Rattle.control.specs.Control.{newControl}
+use Rattle.control.specs.declared.answer.Answer.the-variants.{Done}
+use Rattle.control.specs.declared.control.Out.{Out}
 use Rattle.parts.proofs.Queue.{queue-of-newest}
 use Rattle.parts.specs.Timers.{IntervalWithin, greatestInterval}
-use Rattle.parts.specs.declared.timers.Interval.{Interval}
 use Rattle.parts.specs.declared.timers.Interval.the-variants.{Off, Every}
+use Rattle.parts.specs.declared.timers.Interval.{Interval}
 use Rattle.sessions.proofs.Apart.{length-zeros}
 use Rattle.sessions.specs.Session.{timeLimit}
 use Rattle.sessions.specs.Sessions.{newSessions}
 use Rattle.sessions.specs.Store.{whole}
 use Rattle.tunnel.proofs.Facts.{undamaged-facts, undamaged-holds}
 use Rattle.tunnel.proofs.Framed.{open-onward, open-now, open-good, small-jitter, GoodCreation, good-creation}
-use Rattle.tunnel.proofs.Kept.{never-within, on-new, on-new-handshake, on-new-ring}
-use Rattle.tunnel.proofs.SoundOperations.{SoundOut, SoundStill, unraising, restart-sound, start-sound, send-sound, batch-sound, look-sound, cookie-sound, response-sound, timeout-sound, event-sound, missing-sound, initiation-sound}
-use Rattle.tunnel.proofs.SoundSteps.{known-choice, SoundControl, eight-empty}
-use Rattle.tunnel.proofs.Steps.{all-empty}
 use Rattle.tunnel.specs.Arguments.{intervalOf, openingOutcome, initiationOutcome, lacking, badOutcome, creationNumber}
-use Rattle.tunnel.specs.Control.{newControl}
 use Rattle.tunnel.specs.Facts.{Undamaged}
 use Rattle.tunnel.specs.Sound.{Sound, SoundLaw, CreatedLaw}
 use Rattle.tunnel.specs.Tunnel.{made, gate, timelessGate, refused, settled, timed, timeless, Called, timedTurn, timedBatch, callNew, callStart, callRestart, callSend, callReceive, callLook, callInitiation, callResponse, callCookie, callTimeout, callEvent, callDeadline, callMissing}
-use Rattle.tunnel.specs.declared.answer.Answer.the-variants.{Done}
-use Rattle.tunnel.specs.declared.control.Out.{Out}
 use Rattle.tunnel.specs.declared.tunnel.Answered.{Answered}
 use Rattle.tunnel.specs.declared.tunnel.Tunnel.{Tunnel}
 

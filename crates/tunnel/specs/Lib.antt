@@ -1,12 +1,6 @@
-pub mod Answer
 pub mod Arguments
 pub mod Check
-pub mod Control
-pub mod Deadlines
+pub mod Deadline
 pub mod Facts
-pub mod Messages
-pub mod Quiet
 pub mod Sound
-pub mod Transport
 pub mod Tunnel
-pub mod Waking

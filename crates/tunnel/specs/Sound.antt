@@ -4,6 +4,7 @@ use mathlib.Core.Bool.{true}
 use mathlib.Core.List.{List}
 use Prim.Native.Nat.{ℕ}
 use lib.ListN.{length}
+use Rattle.control.specs.declared.answer.Answer.the-variants.{Done}
 use Rattle.tunnel.specs.Check.{undamaged}
 use Rattle.tunnel.specs.Tunnel.{
   callNew,
@@ -20,7 +21,6 @@ use Rattle.tunnel.specs.Tunnel.{
   callDeadline,
   callMissing,
 }
-use Rattle.tunnel.specs.declared.answer.Answer.the-variants.{Done}
 use Rattle.tunnel.specs.declared.tunnel.Tunnel.{Tunnel}
 
 -- a tunnel that number 14 lets through, with the eight slots and the sixteen places for events that its arrays have

@@ -5,18 +5,18 @@ use mathlib.Core.List.{List}
 use Prim.Native.Nat.{ℕ}
 use lib.Dec.{ltb, eqb}
 use Rattle.base.specs.Choice.{choose}
+use Rattle.control.specs.Control.{Turn, newControl, outcome, pollEvent, missingReport}
+use Rattle.control.specs.Deadlines.{pollTimeout}
+use Rattle.control.specs.Messages.{startHandshake, restartHandshake, handleHandshakeInitiation, handleHandshakeResponse, handleCookieReply}
+use Rattle.control.specs.Transport.{Batched, send, commitDecapsulate, beginDecapsulate}
+use Rattle.control.specs.Waking.{handleTimeout}
+use Rattle.control.specs.declared.answer.Answer.the-variants.{No, Done, Deadline}
+use Rattle.control.specs.declared.answer.Answer.{Answer}
+use Rattle.control.specs.declared.control.Out.{Out}
 use Rattle.sessions.specs.Session.{timeLimit}
 use Rattle.sessions.specs.Store.{zeros}
 use Rattle.tunnel.specs.Arguments.{intervalOf, openingOutcome, initiationOutcome, lacking, badOutcome, badJitter, badBatch, creationNumber}
 use Rattle.tunnel.specs.Check.{undamaged}
-use Rattle.tunnel.specs.Control.{Turn, newControl, outcome, pollEvent, missingReport}
-use Rattle.tunnel.specs.Deadlines.{pollTimeout}
-use Rattle.tunnel.specs.Messages.{startHandshake, restartHandshake, handleHandshakeInitiation, handleHandshakeResponse, handleCookieReply}
-use Rattle.tunnel.specs.Transport.{Batched, send, commitDecapsulate, beginDecapsulate}
-use Rattle.tunnel.specs.Waking.{handleTimeout}
-use Rattle.tunnel.specs.declared.answer.Answer.{Answer}
-use Rattle.tunnel.specs.declared.answer.Answer.the-variants.{No, Done, Deadline}
-use Rattle.tunnel.specs.declared.control.Out.{Out}
 use Rattle.tunnel.specs.declared.tunnel.Answered.{Answered}
 use Rattle.tunnel.specs.declared.tunnel.Tunnel.{Tunnel}
 

@@ -3,9 +3,8 @@ ghost use mathlib.Core.Path.{_≡_};
 ghost use mathlib.Core.List.{List};
 ghost use Prim.Native.Nat.{ℕ};
 ghost use lib.ListN.{length};
-ghost use Rattle.tunnel.specs.Quiet.{QuietLaw, DeadlineLaw};
+ghost use Rattle.tunnel.specs.Deadline.{DeadlineLaw};
 ghost use Rattle.tunnel.specs.Sound.{Sound, SoundLaw, StoreLaw, CreatedLaw};
-ghost use Rattle.tunnel.specs.declared.control.Control.{Control};
 ghost use Rattle.tunnel.specs.declared.tunnel.Tunnel.{Tunnel};
 
 // Every call that is handed a sound tunnel hands back a sound one, turned down or not.
@@ -21,11 +20,6 @@ pub fn store_law()
 // A creation hands back a sound tunnel, turned down or not.
 pub fn created_law()
     ensures { λ r. ⌜ ((store : List ℕ) (index keepalive now : ℕ) → CreatedLaw store index keepalive now) ⌝ }
-{}
-
-// A waking that comes early leaves the control and the store as they were.
-pub fn quiet_law()
-    ensures { λ r. ⌜ ((c : Control) (store : List ℕ) (jitter now : ℕ) → QuietLaw c store jitter now) ⌝ }
 {}
 
 // The deadline is that of the control and the last update, whatever the greatest time is.

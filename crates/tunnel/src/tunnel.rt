@@ -1,6 +1,5 @@
 // The calls. Each hands the tunnel back with its answer; one that is turned down answers `No` with its number. The checks come in
 // the order 1, 2, 14, 13; then follows what the Rust itself tests.
-use crate::answer::Answer;
 use crate::arguments::bad_batch;
 use crate::arguments::bad_jitter;
 use crate::arguments::bad_outcome;
@@ -9,8 +8,9 @@ use crate::arguments::initiation_outcome;
 use crate::arguments::interval_of;
 use crate::arguments::lacks;
 use crate::arguments::opening_outcome;
-use crate::control::Control;
-use crate::control::Out;
+use control::answer::Answer;
+use control::control::Control;
+use control::control::Out;
 use sessions::store::zero;
 ghost use mathlib.Core.Path.{_≡_};
 ghost use Rattle.base.specs.Choice.{choose};

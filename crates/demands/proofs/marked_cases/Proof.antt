@@ -5,19 +5,20 @@ use Rattle.sessions.specs.Index.{wrappingIncrement}
 use Rattle.sessions.specs.Session.{caseTime, dueBy, least, earlier, expiresAt, caseReserved, caseRole, newSession, emptySession, expiredAt, shouldUseAt, sendingCounterExhausted, reserveCounters}
 use Rattle.sessions.specs.Sessions.{caseFound, caseSelected, emptySlots, newSessions, inSlotOf, get, put, currentOf, inCurrentSlot, indexAfter, nextIndex, inserting, usable, sendingSession, select, expiredSlot, expireSlot, expireFirst, expire, slotExpiry, firstExpiry}
 use Rattle.sessions.specs.Store.{zeros}
-use Rattle.tunnel.specs.Answer.{numberOf, eventWord, eventValues, timeWord, timeValues, wordOf, valuesOf}
+use Rattle.control.specs.Answer.{numberOf, eventWord, eventValues, timeWord, timeValues, wordOf, valuesOf}
 use Rattle.tunnel.specs.Arguments.{intervalOf, lacking, badJitter, creationNumber}
 use Rattle.parts.specs.Check.{timeHolds, stateHolds, inRange, intervalHolds, bothAtMost, eventHolds, slotHolds, slotsHold, queueHolds, eventsHold, handshakeHolds, packetTimersHold, dataTimersHold, fieldsHold, timersHold}
-use Rattle.tunnel.specs.Check.{storedHolds, controlHolds, undamaged}
-use Rattle.tunnel.specs.Control.{newControl, refuse, done, expiredControl, queueing, pollEvent}
-use Rattle.tunnel.specs.Deadlines.{scheduledHandshake, earliestExpiry, cookieDeadline, rejectDeadline, attemptDeadline, handshakeRekeyTimeout, rekeyOnSend, rekeyAfterMessages, rekeyOnReceive, responseDeadline, passiveDeadline, persistentDeadline, currentPersistentDeadline, commonDeadline, rekeyDeadline, keepaliveDeadline, unscheduledDeadline, nextDeadline, notBefore, pollTimeout}
+use Rattle.control.specs.Check.{storedHolds, controlHolds}
+use Rattle.tunnel.specs.Check.{undamaged}
+use Rattle.control.specs.Control.{newControl, refuse, done, expiredControl, queueing, pollEvent}
+use Rattle.control.specs.Deadlines.{scheduledHandshake, earliestExpiry, cookieDeadline, rejectDeadline, attemptDeadline, handshakeRekeyTimeout, rekeyOnSend, rekeyAfterMessages, rekeyOnReceive, responseDeadline, passiveDeadline, persistentDeadline, currentPersistentDeadline, commonDeadline, rekeyDeadline, keepaliveDeadline, unscheduledDeadline, nextDeadline, notBefore, pollTimeout}
 use Rattle.parts.specs.Event.{caseEvent}
 use Rattle.parts.specs.Handshake.{caseState, newHandshake, isInProgress, inFlightInitiation, isExpired, cookieExpiration}
 use Rattle.parts.specs.RingBuffer.{placeOf, emptyPlaces, newRing, ringIsEmpty, storeAt, pushBack, popFront, eventsFrom, queued}
 use Rattle.parts.specs.Timers.{caseInterval, newTimers, rejectAfterTimeOf, rekeyAfterTimeWithoutResponse, keepaliveAfterTimeWithoutSend, nextPersistentKeepalive, tickPersistentKeepalive, rekeyTimeoutOf}
-use Rattle.tunnel.specs.Transport.{caseDatagram, encryptKeepalive}
+use Rattle.control.specs.Transport.{caseDatagram, encryptKeepalive}
 use Rattle.tunnel.specs.Tunnel.{made, gate, timelessGate, refused, settled, timed, timeless, kept, timedTurn, callNew, callTimeout, callEvent, callDeadline}
-use Rattle.tunnel.specs.Waking.{queueKeepalive, persistentKeepalive, keepalives, rekeyDue, wakeIdle, expireCookie, wakeLater, wakeRest, wakeCurrent, wakeSessions, wake, handleTimeout}
+use Rattle.control.specs.Waking.{queueKeepalive, persistentKeepalive, keepalives, rekeyDue, wakeIdle, expireCookie, wakeLater, wakeRest, wakeCurrent, wakeSessions, wake, handleTimeout}
 use Rattle.window.specs.Window.{bitAt, checkBit, setBit, clearBit, clears, empty, advance, isInvalid, willAccept, nextAfter, wordsAfter}
 use Rattle.window.specs.History.{verdict, given}
 use Rattle.demands.specs.Marked.{same, standing, sameWindow, after, verdicts, reserving, sends, code, says, filled, wokenAt, holds, holdAll, marked}

@@ -1,0 +1,73 @@
+-- One law for each function that only hands on what its calls return.
+-- Assumes nothing.
+use mathlib.Core.Path.{_≡_, _∙_}
+use mathlib.Core.Bool.{false}
+use Prim.Native.Nat.{ℕ, _+_}
+use Rattle.control.specs.Control.{control, withSessions, withTimers, withEvents, outcome, newControl, queueing, pollEvent}
+use Rattle.control.specs.Deadlines.{earliestExpiry, cookieDeadline, rejectDeadline, handshakeRekeyTimeout, rekeyOnSend, rekeyAfterMessages, rekeyOnReceive, responseDeadline, passiveDeadline, currentPersistentDeadline, commonDeadline, rekeyDeadline, keepaliveDeadline}
+use Rattle.control.specs.Transport.{beginEncapsulate}
+use Rattle.control.specs.Waking.{scheduling}
+use Rattle.control.specs.declared.answer.Answer.the-variants.{Polled}
+use Rattle.control.specs.declared.control.Control.{Control}
+use Rattle.parts.specs.Handshake.{newHandshake, inFlightInitiation}
+use Rattle.parts.specs.RingBuffer.{newRing, pushBack, popFront}
+use Rattle.parts.specs.Timers.{newTimers, rekeyTimeoutOf, scheduleHandshake, tickLastPacketSent, tickLastDataPacketSent}
+use Rattle.parts.specs.declared.event.Event.{Event}
+use Rattle.parts.specs.declared.handshake.Handshake.{Handshake}
+use Rattle.parts.specs.declared.ring_buffer.Popped.{Popped}
+use Rattle.parts.specs.declared.ring_buffer.RingBuffer.{RingBuffer}
+use Rattle.parts.specs.declared.timers.Interval.{Interval}
+use Rattle.parts.specs.declared.timers.Timers.{Timers}
+use Rattle.sessions.specs.Session.{earlier}
+use Rattle.sessions.specs.Sessions.{newSessions, put}
+use Rattle.sessions.specs.declared.session.Session.{Session}
+use Rattle.sessions.specs.declared.session.Time.the-variants.{Never}
+use Rattle.sessions.specs.declared.session.Time.{Time}
+use Rattle.sessions.specs.declared.sessions.Sessions.{Sessions}
+
+-- a creation
+pub chain-new : (index now : ℕ) (interval : Interval) (h : Handshake) (s : Sessions) (t : Timers) (e : RingBuffer) → h ≡ newHandshake
+    → s ≡ newSessions index → t ≡ newTimers interval now → e ≡ newRing → control h s t e Never false ≡ newControl index interval now
+unfolding newControl
+chain-new index now interval h s t e p q r u = rw (p, q, r, u)
+
+module _ (c : Control) where
+  -- events
+  pub chain-queued : (event : Event) (e : RingBuffer) → e ≡ pushBack (c .events) event → withEvents c e ≡ queueing c event
+  unfolding queueing
+  chain-queued event e p = rw p
+
+  pub chain-polled : (popped : Popped) → popped ≡ popFront (c .events)
+      → outcome (withEvents c (popped .events)) (Polled (popped .event)) false false ≡ pollEvent c
+  unfolding pollEvent
+  chain-polled popped p = rw p
+
+  -- a handshake scheduled
+  pub chain-scheduled : (jitter now : ℕ) (t : Timers) → t ≡ scheduleHandshake (c .timers) (now + jitter) → withTimers c t ≡ scheduling c jitter now
+  unfolding scheduling
+  chain-scheduled jitter now t p = rw p
+
+  -- data about to be sent
+  pub chain-begun : (session : Session) (now : ℕ) (sent t : Timers) (s : Sessions) → sent ≡ tickLastPacketSent (c .timers) now
+      → t ≡ tickLastDataPacketSent sent now → s ≡ put (c .sessions) session → withSessions (withTimers c t) s ≡ beginEncapsulate c session now
+  unfolding beginEncapsulate
+  chain-begun session now sent t s p q r = rw (r, q, p)
+
+  -- deadlines
+  pub chain-retry : (a r : Time) → a ≡ inFlightInitiation (c .handshake) → r ≡ rekeyTimeoutOf a → r ≡ handshakeRekeyTimeout c
+  unfolding handshakeRekeyTimeout
+  chain-retry a r p q = q ∙ rw p
+
+  pub chain-common : (a b d e r : Time) → a ≡ earliestExpiry c → b ≡ cookieDeadline c → d ≡ earlier a b → e ≡ rejectDeadline c → r ≡ earlier d e
+      → r ≡ commonDeadline c
+  unfolding commonDeadline
+  chain-common a b d e r p q s t u = u ∙ rw (s, p, q, t)
+
+  pub chain-rekey : (a b d e f g r : Time) → a ≡ rekeyOnSend c → b ≡ rekeyAfterMessages c → d ≡ earlier a b → e ≡ rekeyOnReceive c
+      → f ≡ responseDeadline c → g ≡ earlier e f → r ≡ earlier d g → r ≡ rekeyDeadline c
+  unfolding rekeyDeadline
+  chain-rekey a b d e f g r p q s t u v w = w ∙ rw (s, p, q, v, t, u)
+
+  pub chain-keepalive : (a b r : Time) → a ≡ passiveDeadline c → b ≡ currentPersistentDeadline c → r ≡ earlier a b → r ≡ keepaliveDeadline c
+  unfolding keepaliveDeadline
+  chain-keepalive a b r p q s = s ∙ rw (p, q)

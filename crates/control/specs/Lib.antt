@@ -1,0 +1,9 @@
+pub mod Answer
+pub mod Check
+pub mod Control
+pub mod Deadlines
+pub mod Facts
+pub mod Messages
+pub mod Quiet
+pub mod Transport
+pub mod Waking

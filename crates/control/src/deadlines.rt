@@ -1,0 +1,180 @@
+// The deadlines at which a waking has something to do, and the next of them.
+use crate::control::Control;
+use parts::timers::rekey_timeout;
+use sessions::session::Time;
+use sessions::session::earlier;
+use sessions::sessions::Found;
+ghost use mathlib.Core.Path.{_≡_};
+ghost use lib.Dec.{ltb};
+ghost use Rattle.base.specs.Choice.{choose};
+ghost use Rattle.sessions.specs.Session.{timeLimit};
+ghost use Rattle.control.specs.Deadlines.{scheduledHandshake, handshakeRekeyTimeout, rekeyOnSend, rekeyAfterMessages, rekeyOnReceive, currentPersistentDeadline, commonDeadline, rekeyDeadline, keepaliveDeadline, nextDeadline, unscheduledDeadline, pollTimeout, notBefore};
+ghost use Rattle.control.specs.Facts.{ControlWithin};
+
+// A deadline, or the last update where it has elapsed before that.
+fn not_before(deadline: Time, last_update: u64) -> Time
+    ensures { λ r. ⌜ r ≡ notBefore deadline «last_update» ⌝ }
+{
+    match deadline {
+        Time::Never => Time::Never,
+        Time::At(at) => Time::At(greater(at, last_update)),
+    }
+}
+
+// The greater of two numbers.
+fn greater(a: u64, b: u64) -> u64
+    ensures { λ r. ⌜ r ≡ choose (ltb a b) b a ⌝ }
+{
+    if a < b {
+        return b;
+    }
+    a
+}
+
+impl Control {
+    // When the scheduled handshake is due.
+    pub(crate) fn scheduled_handshake(self) -> Time
+        ensures { λ r. ⌜ r ≡ scheduledHandshake self ⌝ }
+    {
+        let timers = self.timers;
+        timers.send_handshake_at
+    }
+
+    // The retry deadline of the initiation that awaits a response.
+    pub(crate) fn handshake_rekey_timeout(self) -> Time
+        requires { ⌜ ControlWithin self timeLimit ⌝ }
+        ensures { λ r. ⌜ r ≡ handshakeRekeyTimeout self ⌝ }
+    {
+        rekey_timeout(self.handshake.in_flight_initiation())
+    }
+
+    // The rekey deadline of a current session that has sent data.
+    pub(crate) fn rekey_after_time_on_send(self) -> Time
+        requires { ⌜ ControlWithin self timeLimit ⌝ }
+        ensures { λ r. ⌜ r ≡ rekeyOnSend self ⌝ }
+    {
+        let Found::Got(session) = self.sessions.current() else {
+            return Time::Never;
+        };
+        session.rekey_after_time_on_send()
+    }
+
+    // When the current session reached `REKEY_AFTER_MESSAGES` sent messages.
+    pub(crate) fn rekey_after_messages(self) -> Time
+        ensures { λ r. ⌜ r ≡ rekeyAfterMessages self ⌝ }
+    {
+        let Found::Got(session) = self.sessions.current() else {
+            return Time::Never;
+        };
+        if session.rekey_after_messages_reached() {
+            return Time::At(self.timers.time_last_packet_sent);
+        }
+        Time::Never
+    }
+
+    // The rekey deadline of a current session that has received data.
+    pub(crate) fn reject_after_time_on_receive(self) -> Time
+        requires { ⌜ ControlWithin self timeLimit ⌝ }
+        ensures { λ r. ⌜ r ≡ rekeyOnReceive self ⌝ }
+    {
+        let Found::Got(session) = self.sessions.current() else {
+            return Time::Never;
+        };
+        session.reject_after_time_on_receive()
+    }
+
+    // The persistent-keepalive deadline while a session is current.
+    pub(crate) fn current_persistent_keepalive(self) -> Time
+        requires { ⌜ ControlWithin self timeLimit ⌝ }
+        ensures { λ r. ⌜ r ≡ currentPersistentDeadline self ⌝ }
+    {
+        let Found::Got(_) = self.sessions.current() else {
+            return Time::Never;
+        };
+        self.timers.next_persistent_keepalive()
+    }
+
+    // The deadlines that count at all times.
+    pub(crate) fn common_deadline(self) -> Time
+        requires { ⌜ ControlWithin self timeLimit ⌝ }
+        ensures { λ r. ⌜ r ≡ commonDeadline self ⌝ }
+    {
+        earlier(
+            earlier(
+                self.sessions.next_expiry(),
+                self.handshake.cookie_expiration(),
+            ),
+            self.timers.reject_after_time(),
+        )
+    }
+
+    // The deadlines at which a handshake is required while none is in progress.
+    pub(crate) fn rekey_deadline(self) -> Time
+        requires { ⌜ ControlWithin self timeLimit ⌝ }
+        ensures { λ r. ⌜ r ≡ rekeyDeadline self ⌝ }
+    {
+        earlier(
+            earlier(self.rekey_after_time_on_send(), self.rekey_after_messages()),
+            earlier(
+                self.reject_after_time_on_receive(),
+                self.timers.rekey_after_time_without_response(),
+            ),
+        )
+    }
+
+    // The deadlines of keepalives.
+    pub(crate) fn keepalive_deadline(self) -> Time
+        requires { ⌜ ControlWithin self timeLimit ⌝ }
+        ensures { λ r. ⌜ r ≡ keepaliveDeadline self ⌝ }
+    {
+        earlier(
+            self.timers.keepalive_after_time_without_send(),
+            self.current_persistent_keepalive(),
+        )
+    }
+
+    // The earliest deadline while no handshake is scheduled.
+    fn unscheduled_deadline(self) -> Time
+        requires { ⌜ ControlWithin self timeLimit ⌝ }
+        ensures { λ r. ⌜ r ≡ unscheduledDeadline self ⌝ }
+    {
+        let common = self.common_deadline();
+        let retry = self.handshake_rekey_timeout();
+        match retry {
+            Time::Never => earlier(
+                common,
+                earlier(self.rekey_deadline(), self.keepalive_deadline()),
+            ),
+            Time::At(at) => earlier(
+                common,
+                earlier(Time::At(at), self.timers.rekey_attempt_deadline()),
+            ),
+        }
+    }
+
+    // The earliest deadline.
+    pub(crate) fn next_deadline(self) -> Time
+        requires { ⌜ ControlWithin self timeLimit ⌝ }
+        ensures { λ r. ⌜ r ≡ nextDeadline self ⌝ }
+    {
+        let scheduled = self.scheduled_handshake();
+        match scheduled {
+            Time::Never => self.unscheduled_deadline(),
+            Time::At(at) => Time::At(at),
+        }
+    }
+
+    // The next deadline for waking the tunnel. While events are queued it has already passed.
+    pub fn poll_timeout(self, last_update: u64) -> Time
+        requires { ⌜ ControlWithin self timeLimit ⌝ }
+        ensures { λ r. ⌜ r ≡ pollTimeout self «last_update» ⌝ }
+    {
+        if self.is_expired() {
+            return Time::Never;
+        }
+        if self.events.is_empty() {
+            return not_before(self.next_deadline(), last_update);
+        }
+        Time::At(last_update)
+    }
+}

@@ -1,0 +1,210 @@
+// Handshake messages, sent and received.
+use crate::answer::Answer;
+use crate::control::Control;
+use crate::control::Out;
+use crate::transport::Datagram;
+use parts::handshake::Completed;
+use parts::handshake::Cookie;
+use parts::handshake::Handshake;
+use parts::timers::get_or;
+use sessions::session::Session;
+use sessions::session::Time;
+ghost use mathlib.Core.Path.{_≡_};
+ghost use Rattle.sessions.specs.Sessions.{insert};
+ghost use Rattle.sessions.specs.Store.{Leaves};
+ghost use Rattle.control.specs.Messages.{responding, respond, handleHandshakeInitiation, confirming, establish, complete, handleHandshakeResponse, handleCookieReply, initiate, restartHandshake, startHandshake};
+ghost use Rattle.parts.specs.RingBuffer.{RingWithin};
+
+// The control after an initiation was sent, and its local index.
+pub struct Initiated {
+    pub control: Control,
+    pub local_index: u32,
+}
+
+impl Control {
+    // Stores the session of an initiation that is answered.
+    fn responded(
+        mut self,
+        handshake: Handshake,
+        store: &mut [u64],
+        session: Session,
+        now: u64,
+    ) -> Control
+        ensures { λ r. ⌜ Leaves r (responding self handshake (store .entry .now) session now) (store .exit .now) (insert (self .sessions) (store .entry .now) session .store) ⌝ }
+    {
+        self.handshake = handshake;
+        self.sessions = self.sessions.insert(store, session);
+        self.timers = self.timers.tick_response(now);
+        self
+    }
+
+    // Answers a handshake initiation with a local index already allocated.
+    fn respond(
+        mut self,
+        store: &mut [u64],
+        local_index: u32,
+        peer: u32,
+        outcome: u8,
+        now: u64,
+    ) -> Out
+        ensures { λ r. ⌜ Leaves r (respond self (store .entry .now) «local_index» peer outcome now .out) (store .exit .now) (respond self (store .entry .now) «local_index» peer outcome now .store) ⌝ }
+    {
+        let completed = self.handshake
+            .receive_handshake_initialization(local_index, peer, outcome, now);
+        match completed {
+            Completed::Failed(number) => return self.refuse(number),
+            Completed::Opened(answered, session) => {
+                self = self.responded(answered, store, session, now);
+                return self.done(Answer::Response(local_index, peer));
+            }
+        }
+    }
+
+    // Answers a handshake initiation. Its local index is used up even where it is turned down.
+    pub fn handle_handshake_initiation(
+        mut self,
+        store: &mut [u64],
+        peer: u32,
+        outcome: u8,
+        now: u64,
+    ) -> Out
+        ensures { λ r. ⌜ Leaves r (handleHandshakeInitiation self (store .entry .now) peer outcome now .out) (store .exit .now) (handleHandshakeInitiation self (store .entry .now) peer outcome now .store) ⌝ }
+    {
+        if self.is_expired() {
+            return self.refuse(11);
+        }
+        let allocated = self.sessions.next_index();
+        let after = allocated.sessions;
+        self.sessions = after;
+        self.respond(store, allocated.index, peer, outcome, now)
+    }
+
+    // Makes the session of a completed handshake the current one and confirms it.
+    fn confirm(mut self, local_index: u32, now: u64) -> Control
+        requires { ⌜ RingWithin (self .events) ⌝ }
+        ensures { λ r. ⌜ r ≡ confirming self «local_index» now ⌝ }
+    {
+        let first = self.first_initiation_at;
+        self.timers = self.timers.tick_completed(now);
+        self.sessions = self.sessions.set_current(local_index);
+        self.confirm_first_session(get_or(first, now), now)
+    }
+
+    // Takes the keepalive that confirms a session to the responder.
+    fn establish(mut self, local_index: u32, now: u64) -> Out
+        requires { ⌜ RingWithin (self .events) ⌝ }
+        ensures { λ r. ⌜ r ≡ establish self «local_index» now ⌝ }
+    {
+        self = self.confirm(local_index, now);
+        let encrypted = self.encrypt_keepalive(now);
+        let keepalive = encrypted.keepalive;
+        match keepalive {
+            Datagram::Skipped => return encrypted.control.refuse(12),
+            Datagram::Sent(peer, counter) => {
+                return encrypted.control.done(Answer::Keepalive(peer, counter));
+            }
+        }
+    }
+
+    // Stores the session of a handshake that is completed and confirms it.
+    fn complete(
+        mut self,
+        ended: Handshake,
+        store: &mut [u64],
+        session: Session,
+        receiver: u32,
+        now: u64,
+    ) -> Out
+        requires { ⌜ RingWithin (self .events) ⌝ }
+        ensures { λ r. ⌜ Leaves r (complete self ended (store .entry .now) session receiver now) (store .exit .now) (insert (self .sessions) (store .entry .now) session .store) ⌝ }
+    {
+        self.handshake = ended;
+        self.sessions = self.sessions.insert(store, session);
+        self.establish(receiver, now)
+    }
+
+    // Completes a handshake that this tunnel initiated.
+    pub fn handle_handshake_response(
+        self,
+        store: &mut [u64],
+        receiver: u32,
+        peer: u32,
+        outcome: u8,
+        now: u64,
+    ) -> Out
+        requires { ⌜ RingWithin (self .events) ⌝ }
+        ensures { λ r. ⌜ Leaves r (handleHandshakeResponse self (store .entry .now) receiver peer outcome now .out) (store .exit .now) (handleHandshakeResponse self (store .entry .now) receiver peer outcome now .store) ⌝ }
+    {
+        if self.is_expired() {
+            return self.refuse(11);
+        }
+        let completed = self.handshake
+            .receive_handshake_response(receiver, peer, outcome, now);
+        match completed {
+            Completed::Failed(number) => return self.refuse(number),
+            Completed::Opened(ended, session) => {
+                return self.complete(ended, store, session, receiver, now);
+            }
+        }
+    }
+
+    // Stores the cookie from a reply to a handshake message of this tunnel.
+    pub fn handle_cookie_reply(mut self, receiver: u32, outcome: u8, now: u64) -> Out
+        ensures { λ r. ⌜ r ≡ handleCookieReply self receiver outcome now ⌝ }
+    {
+        if self.is_expired() {
+            return self.refuse(11);
+        }
+        let cookie = self.handshake.receive_cookie_reply(receiver, outcome, now);
+        match cookie {
+            Cookie::Unusable(number) => return self.refuse(number),
+            Cookie::Stored(stored) => {
+                self.handshake = stored;
+                return self.done(Answer::Done);
+            }
+        }
+    }
+
+    // Sends an initiation, replacing one that is in progress.
+    pub(crate) fn initiate(self, now: u64) -> Initiated
+        ensures { λ r. ⌜ r ≡ initiate self now ⌝ }
+    {
+        let first = self.first_initiation_at;
+        let allocated = self.sessions.next_index();
+        let after = allocated.sessions;
+        Initiated {
+            control: Control {
+                handshake: self.handshake.initiate_handshake(allocated.index, now),
+                sessions: after,
+                timers: self.timers
+                    .tick_initiation(self.handshake.is_in_progress(), now),
+                first_initiation_at: Time::At(get_or(first, now)),
+                ..self
+            },
+            local_index: allocated.index,
+        }
+    }
+
+    // Starts a new handshake with the peer, replacing one that is in progress. Nothing is sent once the tunnel has expired.
+    pub fn restart_handshake(self, now: u64) -> Out
+        ensures { λ r. ⌜ r ≡ restartHandshake self now ⌝ }
+    {
+        if self.is_expired() {
+            return self.done(Answer::NoAnswer);
+        }
+        let initiated = self.initiate(now);
+        initiated
+            .control
+            .done(Answer::Initiation(initiated.local_index))
+    }
+
+    // Starts a handshake with the peer, unless one is in progress.
+    pub fn initiate_handshake(self, now: u64) -> Out
+        ensures { λ r. ⌜ r ≡ startHandshake self now ⌝ }
+    {
+        if self.handshake.is_in_progress() {
+            return self.done(Answer::NoAnswer);
+        }
+        self.restart_handshake(now)
+    }
+}
