@@ -27,7 +27,7 @@ use Rattle.sessions.specs.Session.{expiredAt}
 use Rattle.sessions.specs.Sessions.{caseFound, slotAt, inSlotOf, get}
 use Rattle.sessions.specs.declared.sessions.Found.the-variants.{Got}
 use Rattle.sessions.specs.declared.sessions.Sessions.{Sessions}
-use Rattle.tunnel.proofs.Framed.{open-good}
+use Rattle.tunnel.proofs.Framed.{gate-good}
 use Rattle.tunnel.specs.Arguments.{lacking, badBatch}
 use Rattle.tunnel.specs.Tunnel.{settled, timed, kept, timedBatch, callReceive}
 
@@ -62,7 +62,7 @@ module _ (w : World) (n : ℕ) (h : ℕ → List ℕ) (g k : List Grant) (y : Kn
   s = w .tunnel .control .sessions
 
   fit : fits (b .counters) (b .kinds) (b .verdicts) ≡ true
-  fit = good-fits (w .store) _ _ _ (open-good (w .tunnel) _ (b .now) _ refl (live .passes))
+  fit = good-fits (w .store) _ _ _ (gate-good (w .tunnel) _ (b .now) (live .passes))
 
   its : receivingSession s (b .index) (b .id) (b .now) ≡ Got (slotAt s slot)
   its =

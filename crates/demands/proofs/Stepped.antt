@@ -43,7 +43,7 @@ use Rattle.sessions.specs.History.{recordedAll}
 use Rattle.sessions.specs.Sessions.{caseFound, currentOf}
 use Rattle.sessions.specs.declared.session.Session.{Session}
 use Rattle.sessions.specs.declared.sessions.Found.the-variants.{Got}
-use Rattle.tunnel.proofs.Framed.{open-onward}
+use Rattle.tunnel.proofs.Framed.{gate-onward}
 use Rattle.tunnel.proofs.SoundCalls.{its-control}
 use Rattle.tunnel.specs.Arguments.{initiationOutcome, openingOutcome}
 use Rattle.tunnel.specs.Sound.{Sound}
@@ -324,7 +324,7 @@ module _ (n : ℕ) (h : ℕ → List ℕ) (g k : List Grant) (w : World) (y : Kn
     next-response s receiver peer outcome few =
         of-inserted _ (gate (w .tunnel) _ now) _ refl
         (λ z. inserts-response (w .tunnel .control) (w .store) receiver peer (openingOutcome outcome) now
-        (sound-later _ now (open-onward (w .tunnel) _ now _ refl z) _ (its-control (w .tunnel) s)) (y .held .size))
+        (sound-later _ now (gate-onward (w .tunnel) _ now z) _ (its-control (w .tunnel) s)) (y .held .size))
         few
 
   -- every call

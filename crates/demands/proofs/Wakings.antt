@@ -38,7 +38,7 @@ use Rattle.sessions.specs.declared.session.Time.the-variants.{Never, At}
 use Rattle.sessions.specs.declared.session.Time.{Time}
 use Rattle.tunnel.proofs.Deadline.{deadline-law}
 use Rattle.tunnel.proofs.Facts.{undamaged-facts}
-use Rattle.tunnel.proofs.Framed.{open-onward}
+use Rattle.tunnel.proofs.Framed.{gate-onward}
 use Rattle.tunnel.specs.Arguments.{intervalOf, badJitter, creationNumber}
 use Rattle.tunnel.specs.Check.{undamaged}
 use Rattle.tunnel.specs.Sound.{Sound}
@@ -137,7 +137,7 @@ module _ {latest : ℕ} (p w : World) (h : Twins latest p w) (bad : Bool) (now :
       go : (t : Bool) → eqb (gate (w .tunnel) bad now) 0 ≡ t → Twins latest p Left ⊎ Twins now p Left
       go false e = rw e (inl h)
       go true e =
-          let g = open-onward (w .tunnel) bad now _ refl (eqb-true _ 0 e) in
+          let g = gate-onward (w .tunnel) bad now (eqb-true _ 0 e) in
           let s = k g in
           let o = h .tunnels .older in
           rw e (inr (record {

@@ -29,6 +29,21 @@ use Rattle.tunnel.specs.Tunnel.{answered, made, gate, timelessGate, refu
 use Rattle.tunnel.specs.declared.tunnel.Answered.{Answered}
 use Rattle.tunnel.specs.declared.tunnel.Tunnel.{Tunnel}
 
+-- the number that the code finds at a time and without one: `sound` is what it has found of number 14
+abbrev tested : (bad sound : Bool) → (greatest now : ℕ) → ℕ
+tested bad sound greatest now = choose (ltb timeLimit now) 1 (choose bad 2 (choose sound (choose (ltb now greatest) 13 0) 14))
+
+abbrev stillTested : (bad sound : Bool) → ℕ
+stillTested bad sound = choose bad 2 (choose sound 0 14)
+
+is-gate : (t : Tunnel) (bad sound : Bool) (now number : ℕ) → number ≡ tested bad sound (t .greatest) now → sound ≡ undamaged t → number ≡ gate t bad now
+unfolding gate
+is-gate t bad sound now number n s = n ∙ rw s refl
+
+is-timeless : (t : Tunnel) (bad sound : Bool) (number : ℕ) → number ≡ stillTested bad sound → sound ≡ undamaged t → number ≡ timelessGate t bad
+unfolding timelessGate
+is-timeless t bad sound number n s = n ∙ rw s refl
+
 -- four tests that end in 0
 record Open (late bad whole back : Bool) : Type 0 where
   early : late ≡ false
@@ -45,28 +60,39 @@ open-of false false true true e = absurd (omega arith)
 open-of false false true false e = record { early = refl; good = refl; sound = refl; onward = refl }
 
 -- what is known once the checks of a call at a time let it through
-module _ (t : Tunnel) (bad : Bool) (now number : ℕ) (n : number ≡ gate t bad now) (z : number ≡ 0) where
+module _ (t : Tunnel) (bad : Bool) (now : ℕ) (z : gate t bad now ≡ 0) where
   opened : Open (ltb timeLimit now) bad (undamaged t) (ltb now (t .greatest))
   unfolding gate
-  opened = open-of (ltb timeLimit now) bad (undamaged t) (ltb now (t .greatest)) (sym n ∙ z)
+  opened = open-of (ltb timeLimit now) bad (undamaged t) (ltb now (t .greatest)) z
+
+  pub gate-onward : t .greatest ≤ now
+  gate-onward = ltb-false now (t .greatest) (opened .onward)
+
+  pub gate-now : now ≤ timeLimit
+  gate-now = ltb-false timeLimit now (opened .early)
+
+  pub gate-good : bad ≡ false
+  gate-good = opened .good
+
+-- the same of the number that the code has found
+module _ (t : Tunnel) (bad sound : Bool) (now number : ℕ) (n : number ≡ tested bad sound (t .greatest) now) (s : sound ≡ undamaged t) (z : number ≡ 0) where
+  passes : gate t bad now ≡ 0
+  passes = sym (is-gate t bad sound now number n s) ∙ z
 
   pub open-within : ControlWithin (t .control) timeLimit
-  open-within = let-through t (undamaged t) refl (opened .sound)
+  open-within = let-through t (undamaged t) refl (opened t bad now passes .sound)
 
   pub open-ring : RingWithin (t .control .events)
   open-ring = open-within .events .ring
 
-  pub open-onward : t .greatest ≤ now
-  open-onward = ltb-false now (t .greatest) (opened .onward)
-
   pub open-now : now ≤ timeLimit
-  open-now = ltb-false timeLimit now (opened .early)
+  open-now = gate-now t bad now passes
 
-  pub open-good : bad ≡ false
-  open-good = opened .good
+  open-good : bad ≡ false
+  open-good = gate-good t bad now passes
 
 -- the same of a call without a time
-module _ (t : Tunnel) (bad : Bool) (number : ℕ) (n : number ≡ timelessGate t bad) (z : number ≡ 0) where
+module _ (t : Tunnel) (bad sound : Bool) (number : ℕ) (n : number ≡ stillTested bad sound) (s : sound ≡ undamaged t) (z : number ≡ 0) where
   timeless-sound : (b whole : Bool) → _≡_ {A = ℕ} (choose b 2 (choose whole 0 14)) 0 → whole ≡ true
   unfolding choose
   timeless-sound true whole e = absurd (omega arith)
@@ -75,15 +101,15 @@ module _ (t : Tunnel) (bad : Bool) (number : ℕ) (n : number ≡ timelessGate t
 
   pub still-within : ControlWithin (t .control) timeLimit
   unfolding timelessGate
-  still-within = let-through t (undamaged t) refl (timeless-sound bad (undamaged t) (sym n ∙ z))
+  still-within = let-through t (undamaged t) refl (timeless-sound bad (undamaged t) (sym (is-timeless t bad sound number n s) ∙ z))
 
   pub still-ring : RingWithin (t .control .events)
   still-ring = still-within .events .ring
 
 -- the frame of a call at a time
-module _ (t : Tunnel) (bad is : Bool) (now number : ℕ) (b : bad ≡ is) (n : number ≡ gate t bad now) where
+module _ (t : Tunnel) (bad is sound : Bool) (now number : ℕ) (b : bad ≡ is) (n : number ≡ tested bad sound (t .greatest) now) (s : sound ≡ undamaged t) where
   same-gate : number ≡ gate t is now
-  same-gate = n ∙ ap (λ (x : Bool). gate t x now) b
+  same-gate = is-gate t bad sound now number n s ∙ ap (λ (x : Bool). gate t x now) b
 
   pub way-refused : (out : Out) (a : Answered) → (number ≡ 0 → ⊥) → a ≡ refused t number → a ≡ timed t is now out
   unfolding timed
@@ -91,7 +117,7 @@ module _ (t : Tunnel) (bad is : Bool) (now number : ℕ) (b : bad ≡ is) (n : n
 
   pub way-settled : (out shall : Out) (a : Answered) → number ≡ 0 → out ≡ shall → a ≡ settled t now out → a ≡ timed t is now shall
   unfolding timed
-  way-settled out shall a z o s = yes-eq _ 0 a _ _ (sym same-gate ∙ z) (s ∙ ap (settled t now) o)
+  way-settled out shall a z o r = yes-eq _ 0 a _ _ (sym same-gate ∙ z) (r ∙ ap (settled t now) o)
 
   kept-refused : (came left : List ℕ) → (number ≡ 0 → ⊥) → came ≡ kept t is now came left
   unfolding kept
@@ -109,8 +135,8 @@ module _ (t : Tunnel) (bad is : Bool) (now number : ℕ) (b : bad ≡ is) (n : n
   pub way-turn-settled : (store left : List ℕ) (turn : Turn) (out : Out) (a : Answered) → number ≡ 0 → Leaves out (turn .out) left (turn .store)
       → a ≡ settled t now out → Leaves a (timedTurn t is now store turn .answered) left (timedTurn t is now store turn .store)
   unfolding timedTurn
-  way-turn-settled store left turn out a z o s =
-      record { out = way-settled out (turn .out) a z (o .out) s; words = kept-settled store left (turn .store) z (o .words) }
+  way-turn-settled store left turn out a z o r =
+      record { out = way-settled out (turn .out) a z (o .out) r; words = kept-settled store left (turn .store) z (o .words) }
 
   pub way-batch-refused : (store verdicts : List ℕ) (batch : Batched) (a : Answered) → (number ≡ 0 → ⊥) → a ≡ refused t number
       → LeavesBatch (timedBatch t is now store verdicts batch) a store verdicts
@@ -125,17 +151,17 @@ module _ (t : Tunnel) (bad is : Bool) (now number : ℕ) (b : bad ≡ is) (n : n
   pub way-batch-settled : (store verdicts left list : List ℕ) (batch : Batched) (out : Out) (a : Answered) → number ≡ 0 → Commits batch out left list
       → a ≡ settled t now out → LeavesBatch (timedBatch t is now store verdicts batch) a left list
   unfolding timedBatch
-  way-batch-settled store verdicts left list batch out a z o s =
+  way-batch-settled store verdicts left list batch out a z o r =
       record {
-        out = way-settled out (batch .out) a z (o .out) s;
+        out = way-settled out (batch .out) a z (o .out) r;
         words = kept-settled store left (batch .store) z (o .words);
         list = kept-settled verdicts list (batch .verdicts) z (o .list);
       }
 
 -- the frame of a call without a time
-module _ (t : Tunnel) (bad is : Bool) (number : ℕ) (b : bad ≡ is) (n : number ≡ timelessGate t bad) where
+module _ (t : Tunnel) (bad is sound : Bool) (number : ℕ) (b : bad ≡ is) (n : number ≡ stillTested bad sound) (s : sound ≡ undamaged t) where
   same-timeless : number ≡ timelessGate t is
-  same-timeless = n ∙ ap (timelessGate t) b
+  same-timeless = is-timeless t bad sound number n s ∙ ap (timelessGate t) b
 
   pub way-timeless-refused : (out : Out) (a : Answered) → (number ≡ 0 → ⊥) → a ≡ refused t number → a ≡ timeless t is out
   unfolding timeless
@@ -143,51 +169,51 @@ module _ (t : Tunnel) (bad is : Bool) (number : ℕ) (b : bad ≡ is) (n : numbe
 
   pub way-timeless-settled : (out shall : Out) (a : Answered) → number ≡ 0 → out ≡ shall → a ≡ settled t 0 out → a ≡ timeless t is shall
   unfolding timeless
-  way-timeless-settled out shall a z o s = yes-eq _ 0 a _ _ (sym same-timeless ∙ z) (s ∙ ap (settled t 0) o)
+  way-timeless-settled out shall a z o r = yes-eq _ 0 a _ _ (sym same-timeless ∙ z) (r ∙ ap (settled t 0) o)
 
 -- the deadline
-pub way-deadline : (t : Tunnel) (number : ℕ) (time : Time) → number ≡ timelessGate t false → number ≡ 0
+pub way-deadline : (t : Tunnel) (sound : Bool) (number : ℕ) (time : Time) → number ≡ stillTested false sound → sound ≡ undamaged t → number ≡ 0
     → time ≡ pollTimeout (t .control) (t .«last_update») → answered t (Deadline time) ≡ callDeadline t
 unfolding callDeadline settled choose
-way-deadline t number time n z e =
-    way-timeless-settled t false false number refl n (outcome (t .control) (Deadline time) false false) _ _ z (rw e) refl
+way-deadline t sound number time n s z e =
+    way-timeless-settled t false false sound number refl n s (outcome (t .control) (Deadline time) false false) _ _ z (rw e) refl
 
 -- an outcome that the call has made of its argument
-module _ (t : Tunnel) (given now number : ℕ) where
-  module _ (store : List ℕ) (peer found : ℕ) (bad : Bool) (f : found ≡ initiationOutcome given) (b : bad ≡ badOutcome found store) (n : number ≡ gate t bad now) where
+module _ (t : Tunnel) (given now number : ℕ) (sound : Bool) (s : sound ≡ undamaged t) where
+  module _ (store : List ℕ) (peer found : ℕ) (bad : Bool) (f : found ≡ initiationOutcome given) (b : bad ≡ badOutcome found store) (n : number ≡ tested bad sound (t .greatest) now) where
     pub way-initiation-refused : (a : Answered) → (number ≡ 0 → ⊥) → a ≡ refused t number
         → Leaves a (callInitiation t store peer given now .answered) store (callInitiation t store peer given now .store)
     unfolding callInitiation
-    way-initiation-refused a z r = rw (← f) (way-turn-refused t bad (badOutcome found store) now number b n store _ a z r)
+    way-initiation-refused a z r = rw (← f) (way-turn-refused t bad (badOutcome found store) sound now number b n s store _ a z r)
 
     pub way-initiation-settled : (left : List ℕ) (out : Out) (a : Answered) → number ≡ 0
         → Leaves out (handleHandshakeInitiation (t .control) store peer found now .out) left (handleHandshakeInitiation (t .control) store peer found now .store)
         → a ≡ settled t now out → Leaves a (callInitiation t store peer given now .answered) left (callInitiation t store peer given now .store)
     unfolding callInitiation
-    way-initiation-settled left out a z o s = rw (← f) (way-turn-settled t bad (badOutcome found store) now number b n store left _ out a z o s)
+    way-initiation-settled left out a z o r = rw (← f) (way-turn-settled t bad (badOutcome found store) sound now number b n s store left _ out a z o r)
 
-  module _ (store : List ℕ) (receiver peer found : ℕ) (bad : Bool) (f : found ≡ openingOutcome given) (b : bad ≡ badOutcome found store) (n : number ≡ gate t bad now) where
+  module _ (store : List ℕ) (receiver peer found : ℕ) (bad : Bool) (f : found ≡ openingOutcome given) (b : bad ≡ badOutcome found store) (n : number ≡ tested bad sound (t .greatest) now) where
     pub way-response-refused : (a : Answered) → (number ≡ 0 → ⊥) → a ≡ refused t number
         → Leaves a (callResponse t store receiver peer given now .answered) store (callResponse t store receiver peer given now .store)
     unfolding callResponse
-    way-response-refused a z r = rw (← f) (way-turn-refused t bad (badOutcome found store) now number b n store _ a z r)
+    way-response-refused a z r = rw (← f) (way-turn-refused t bad (badOutcome found store) sound now number b n s store _ a z r)
 
     pub way-response-settled : (left : List ℕ) (out : Out) (a : Answered) → number ≡ 0
         → Leaves out (handleHandshakeResponse (t .control) store receiver peer found now .out) left
         (handleHandshakeResponse (t .control) store receiver peer found now .store)
         → a ≡ settled t now out → Leaves a (callResponse t store receiver peer given now .answered) left (callResponse t store receiver peer given now .store)
     unfolding callResponse
-    way-response-settled left out a z o s = rw (← f) (way-turn-settled t bad (badOutcome found store) now number b n store left _ out a z o s)
+    way-response-settled left out a z o r = rw (← f) (way-turn-settled t bad (badOutcome found store) sound now number b n s store left _ out a z o r)
 
-  module _ (receiver found : ℕ) (f : found ≡ openingOutcome given) (n : number ≡ gate t (eqb found 2) now) where
+  module _ (receiver found : ℕ) (f : found ≡ openingOutcome given) (n : number ≡ tested (eqb found 2) sound (t .greatest) now) where
     pub way-cookie-refused : (a : Answered) → (number ≡ 0 → ⊥) → a ≡ refused t number → a ≡ callCookie t receiver given now
     unfolding callCookie
-    way-cookie-refused a z r = rw (← f) (way-refused t (eqb found 2) (eqb found 2) now number refl n _ a z r)
+    way-cookie-refused a z r = rw (← f) (way-refused t (eqb found 2) (eqb found 2) sound now number refl n s _ a z r)
 
     pub way-cookie-settled : (out : Out) (a : Answered) → number ≡ 0 → out ≡ handleCookieReply (t .control) receiver found now
         → a ≡ settled t now out → a ≡ callCookie t receiver given now
     unfolding callCookie
-    way-cookie-settled out a z o s = rw (← f) (way-settled t (eqb found 2) (eqb found 2) now number refl n out _ a z o s)
+    way-cookie-settled out a z o r = rw (← f) (way-settled t (eqb found 2) (eqb found 2) sound now number refl n s out _ a z o r)
 
 -- a jitter that the checks let through
 pub small-jitter : (jitter : ℕ) (store : List ℕ) (late : Bool) → ltb maxJitter jitter ≡ late → badJitter jitter store ≡ false → jitter ≤ maxJitter
@@ -195,9 +221,10 @@ unfolding badJitter choose
 small-jitter jitter store false e g = ltb-false maxJitter jitter e
 small-jitter jitter store true e g = absurd (true≢false (rw e at g))
 
-pub open-jitter : (t : Tunnel) (jitter now number : ℕ) (store : List ℕ) (bad : Bool) → bad ≡ badJitter jitter store → number ≡ gate t bad now
-    → number ≡ 0 → jitter ≤ maxJitter
-open-jitter t jitter now number store bad b n z = small-jitter jitter store (ltb maxJitter jitter) refl (sym b ∙ open-good t bad now number n z)
+pub open-jitter : (t : Tunnel) (jitter now number : ℕ) (store : List ℕ) (bad sound : Bool) → bad ≡ badJitter jitter store
+    → number ≡ tested bad sound (t .greatest) now → sound ≡ undamaged t → number ≡ 0 → jitter ≤ maxJitter
+open-jitter t jitter now number store bad sound b n s z =
+    small-jitter jitter store (ltb maxJitter jitter) refl (sym b ∙ open-good t bad sound now number n s z)
 
 -- a creation that the checks let through
 record Unturned (late big full : Bool) : Type 0 where

@@ -25,7 +25,7 @@ use Rattle.sessions.specs.Session.{timeLimit}
 use Rattle.sessions.specs.Sessions.{newSessions}
 use Rattle.sessions.specs.Store.{whole}
 use Rattle.tunnel.proofs.Facts.{undamaged-facts, undamaged-holds}
-use Rattle.tunnel.proofs.Framed.{open-onward, open-now, open-good, small-jitter, GoodCreation, good-creation}
+use Rattle.tunnel.proofs.Framed.{gate-onward, gate-now, gate-good, small-jitter, GoodCreation, good-creation}
 use Rattle.tunnel.specs.Arguments.{intervalOf, openingOutcome, initiationOutcome, lacking, badOutcome, creationNumber}
 use Rattle.tunnel.specs.Facts.{Undamaged}
 use Rattle.tunnel.specs.Sound.{Sound, SoundLaw, CreatedLaw}
@@ -74,8 +74,8 @@ module _ (t : Tunnel) (s : Sound t) where
       known-choice (λ (y : Answered). Sound (y .tunnel)) (eqb (gate t bad now) 0) _ _
       (λ e.
       let z : gate t bad now ≡ 0 = eqb-true _ 0 e in
-      let m : t .greatest ≤ now = open-onward t bad now _ refl z in
-      settled-sound now out (open-now t bad now _ refl z) m (o (open-good t bad now _ refl z) m))
+      let m : t .greatest ≤ now = gate-onward t bad now z in
+      settled-sound now out (gate-now t bad now z) m (o (gate-good t bad now z) m))
       (λ e. s)
 
   pub timeless-sound : (bad : Bool) (out : Out) → SoundStill out (t .greatest) → Sound (timeless t bad out .tunnel)

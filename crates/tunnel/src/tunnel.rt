@@ -13,9 +13,11 @@ use control::control::Control;
 use control::control::Out;
 use sessions::store::zero;
 ghost use mathlib.Core.Path.{_≡_};
+ghost use lib.Dec.{ltb};
 ghost use Rattle.base.specs.Choice.{choose};
+ghost use Rattle.sessions.specs.Session.{timeLimit};
 ghost use Rattle.sessions.specs.Store.{Leaves};
-ghost use Rattle.tunnel.specs.Tunnel.{made, gate, timelessGate, refused, settled, LeavesBatch, callNew, callStart, callRestart, callSend, callReceive, callLook, callInitiation, callResponse, callCookie, callTimeout, callEvent, callDeadline, callMissing};
+ghost use Rattle.tunnel.specs.Tunnel.{made, refused, settled, LeavesBatch, callNew, callStart, callRestart, callSend, callReceive, callLook, callInitiation, callResponse, callCookie, callTimeout, callEvent, callDeadline, callMissing};
 
 // The greatest time that a call may have.
 pub const TIME_LIMIT: u64 = 4_000_000_000_000_000_000;
@@ -44,6 +46,38 @@ fn set_if(sets: bool, now: u64, before: u64) -> u64
     before
 }
 
+// The number that turns down a call at a time, or 0: `sound` is whether number 14 lets the tunnel through.
+fn gate(bad: bool, sound: bool, greatest: u64, now: u64) -> u8
+    ensures { λ r. ⌜ r ≡ choose (ltb timeLimit now) 1 (choose bad 2 (choose sound (choose (ltb now greatest) 13 0) 14)) ⌝ }
+{
+    if now > TIME_LIMIT {
+        return 1;
+    }
+    if bad {
+        return 2;
+    }
+    if sound {
+        if now < greatest {
+            return 13;
+        }
+        return 0;
+    }
+    14
+}
+
+// The number that turns down a call without a time, or 0.
+fn timeless_gate(bad: bool, sound: bool) -> u8
+    ensures { λ r. ⌜ r ≡ choose bad 2 (choose sound 0 14) ⌝ }
+{
+    if bad {
+        return 2;
+    }
+    if sound {
+        return 0;
+    }
+    14
+}
+
 impl Tunnel {
     // The tunnel that a creation makes.
     fn made(index: u32, keepalive: u64, now: u64) -> Tunnel
@@ -54,38 +88,6 @@ impl Tunnel {
             last_update: now,
             greatest: now,
         }
-    }
-
-    // The number that turns down a call at a time, or 0.
-    fn gate(self, bad: bool, now: u64) -> u8
-        ensures { λ r. ⌜ r ≡ gate self bad now ⌝ }
-    {
-        if now > TIME_LIMIT {
-            return 1;
-        }
-        if bad {
-            return 2;
-        }
-        if self.undamaged() {
-            if now < self.greatest {
-                return 13;
-            }
-            return 0;
-        }
-        14
-    }
-
-    // The number that turns down a call without a time, or 0.
-    fn timeless_gate(self, bad: bool) -> u8
-        ensures { λ r. ⌜ r ≡ timelessGate self bad ⌝ }
-    {
-        if bad {
-            return 2;
-        }
-        if self.undamaged() {
-            return 0;
-        }
-        14
     }
 
     // A call that a check turns down.
@@ -133,7 +135,8 @@ impl Tunnel {
     pub fn initiate_handshake(self, now: u64) -> Answered
         ensures { λ r. ⌜ r ≡ callStart self now ⌝ }
     {
-        let number = self.gate(false, now);
+        let sound = self.undamaged();
+        let number = gate(false, sound, self.greatest, now);
         if number != 0 {
             return self.refused(number);
         }
@@ -144,7 +147,8 @@ impl Tunnel {
     pub fn restart_handshake(self, now: u64) -> Answered
         ensures { λ r. ⌜ r ≡ callRestart self now ⌝ }
     {
-        let number = self.gate(false, now);
+        let sound = self.undamaged();
+        let number = gate(false, sound, self.greatest, now);
         if number != 0 {
             return self.refused(number);
         }
@@ -155,7 +159,8 @@ impl Tunnel {
     pub fn send(self, count: u64, now: u64) -> Answered
         ensures { λ r. ⌜ r ≡ callSend self count now ⌝ }
     {
-        let number = self.gate(count == 0, now);
+        let sound = self.undamaged();
+        let number = gate(count == 0, sound, self.greatest, now);
         if number != 0 {
             return self.refused(number);
         }
@@ -176,7 +181,8 @@ impl Tunnel {
         ensures { λ r. ⌜ LeavesBatch (callReceive self (store .entry .now) index id now (counters .entry .now) (kinds .entry .now) (verdicts .entry .now)) r (store .exit .now) (verdicts .exit .now) ⌝ }
     {
         let bad = bad_batch(store, counters, kinds, verdicts);
-        let number = self.gate(bad, now);
+        let sound = self.undamaged();
+        let number = gate(bad, sound, self.greatest, now);
         if number != 0 {
             return self.refused(number);
         }
@@ -189,7 +195,9 @@ impl Tunnel {
     pub fn look(self, store: &[u64], index: u32, counter: u64, now: u64) -> Answered
         ensures { λ r. ⌜ r ≡ callLook self (store .entry .now) index counter now ⌝ }
     {
-        let number = self.gate(lacks(store), now);
+        let bad = lacks(store);
+        let sound = self.undamaged();
+        let number = gate(bad, sound, self.greatest, now);
         if number != 0 {
             return self.refused(number);
         }
@@ -211,7 +219,8 @@ impl Tunnel {
     {
         let found = initiation_outcome(outcome);
         let bad = bad_outcome(found, store);
-        let number = self.gate(bad, now);
+        let sound = self.undamaged();
+        let number = gate(bad, sound, self.greatest, now);
         if number != 0 {
             return self.refused(number);
         }
@@ -233,7 +242,8 @@ impl Tunnel {
     {
         let found = opening_outcome(outcome);
         let bad = bad_outcome(found, store);
-        let number = self.gate(bad, now);
+        let sound = self.undamaged();
+        let number = gate(bad, sound, self.greatest, now);
         if number != 0 {
             return self.refused(number);
         }
@@ -247,7 +257,8 @@ impl Tunnel {
         ensures { λ r. ⌜ r ≡ callCookie self receiver outcome now ⌝ }
     {
         let found = opening_outcome(outcome);
-        let number = self.gate(found == 2, now);
+        let sound = self.undamaged();
+        let number = gate(found == 2, sound, self.greatest, now);
         if number != 0 {
             return self.refused(number);
         }
@@ -259,7 +270,8 @@ impl Tunnel {
         ensures { λ r. ⌜ Leaves r (callTimeout self (store .entry .now) jitter now .answered) (store .exit .now) (callTimeout self (store .entry .now) jitter now .store) ⌝ }
     {
         let bad = bad_jitter(jitter, store);
-        let number = self.gate(bad, now);
+        let sound = self.undamaged();
+        let number = gate(bad, sound, self.greatest, now);
         if number != 0 {
             return self.refused(number);
         }
@@ -271,7 +283,8 @@ impl Tunnel {
     pub fn poll_event(self) -> Answered
         ensures { λ r. ⌜ r ≡ callEvent self ⌝ }
     {
-        let number = self.timeless_gate(false);
+        let sound = self.undamaged();
+        let number = timeless_gate(false, sound);
         if number != 0 {
             return self.refused(number);
         }
@@ -282,7 +295,8 @@ impl Tunnel {
     pub fn poll_timeout(self) -> Answered
         ensures { λ r. ⌜ r ≡ callDeadline self ⌝ }
     {
-        let number = self.timeless_gate(false);
+        let sound = self.undamaged();
+        let number = timeless_gate(false, sound);
         if number != 0 {
             return self.refused(number);
         }
@@ -296,7 +310,9 @@ impl Tunnel {
     pub fn missing(self, store: &[u64], index: u32) -> Answered
         ensures { λ r. ⌜ r ≡ callMissing self (store .entry .now) index ⌝ }
     {
-        let number = self.timeless_gate(lacks(store));
+        let bad = lacks(store);
+        let sound = self.undamaged();
+        let number = timeless_gate(bad, sound);
         if number != 0 {
             return self.refused(number);
         }

@@ -6,6 +6,9 @@ use Rattle.tunnel.proofs.tunnel.Tunnel.handle_cookie_reply.Tie as tie
 opening-outcome-requires : tie.Need-opening-outcome-requires
 opening-outcome-requires c κs = search needs
 
+undamaged-requires : tie.Need-undamaged-requires
+undamaged-requires c κs = search needs
+
 gate-requires : tie.Need-gate-requires
 gate-requires c κs = search needs
 
@@ -26,6 +29,7 @@ returns-2 c = search (way-cookie-settled, needs)
 
 pub handle-cookie-reply-spec : {M : Type 1} → statement M
 handle-cookie-reply-spec = tie.close (tie.spec opening-outcome-requires
+    undamaged-requires
     gate-requires
     refused-requires
     returns

@@ -9,6 +9,9 @@ opening-outcome-requires c κs = search needs
 bad-outcome-requires : tie.Need-bad-outcome-requires
 bad-outcome-requires c κs = search needs
 
+undamaged-requires : tie.Need-undamaged-requires
+undamaged-requires c κs = search needs
+
 gate-requires : tie.Need-gate-requires
 gate-requires c κs = search needs
 
@@ -36,6 +39,7 @@ returns-2 c = search (way-response-settled, needs)
 pub handle-handshake-response-spec : {M : Type 1} → statement M
 handle-handshake-response-spec = tie.close (tie.spec opening-outcome-requires
     bad-outcome-requires
+    undamaged-requires
     gate-requires
     refused-requires
     same-length

@@ -7,6 +7,9 @@ use Rattle.tunnel.proofs.tunnel.Tunnel.handle_timeout.Tie as tie
 bad-jitter-requires : tie.Need-bad-jitter-requires
 bad-jitter-requires c κs = search needs
 
+undamaged-requires : tie.Need-undamaged-requires
+undamaged-requires c κs = search needs
+
 gate-requires : tie.Need-gate-requires
 gate-requires c κs = search needs
 
@@ -35,6 +38,7 @@ returns-2 c = search (way-turn-settled, needs)
 
 pub handle-timeout-spec : {M : Type 1} → statement M
 handle-timeout-spec = tie.close (tie.spec bad-jitter-requires
+    undamaged-requires
     gate-requires
     refused-requires
     same-length

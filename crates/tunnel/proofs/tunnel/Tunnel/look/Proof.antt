@@ -7,6 +7,9 @@ use Rattle.tunnel.proofs.tunnel.Tunnel.look.Tie as tie
 lacks-requires : tie.Need-lacks-requires
 lacks-requires c κs = search needs
 
+undamaged-requires : tie.Need-undamaged-requires
+undamaged-requires c κs = search needs
+
 gate-requires : tie.Need-gate-requires
 gate-requires c κs = search needs
 
@@ -29,6 +32,7 @@ returns-2 c = search (way-settled, needs)
 
 pub look-spec : {M : Type 1} → statement M
 look-spec = tie.close (tie.spec lacks-requires
+    undamaged-requires
     gate-requires
     refused-requires
     returns

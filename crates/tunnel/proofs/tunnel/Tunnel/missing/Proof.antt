@@ -7,6 +7,9 @@ use Rattle.tunnel.proofs.tunnel.Tunnel.missing.Tie as tie
 lacks-requires : tie.Need-lacks-requires
 lacks-requires c κs = search needs
 
+undamaged-requires : tie.Need-undamaged-requires
+undamaged-requires c κs = search needs
+
 timeless-gate-requires : tie.Need-timeless-gate-requires
 timeless-gate-requires c κs = search needs
 
@@ -29,6 +32,7 @@ returns-2 c = search (way-timeless-settled, needs)
 
 pub missing-spec : {M : Type 1} → statement M
 missing-spec = tie.close (tie.spec lacks-requires
+    undamaged-requires
     timeless-gate-requires
     refused-requires
     returns

@@ -4,6 +4,9 @@ use borrow.Author.Needs.{needs}
 use Rattle.tunnel.proofs.tunnel.Tunnel.poll_event.Statement.{statement}
 use Rattle.tunnel.proofs.tunnel.Tunnel.poll_event.Tie as tie
 
+undamaged-requires : tie.Need-undamaged-requires
+undamaged-requires c κs = search needs
+
 timeless-gate-requires : tie.Need-timeless-gate-requires
 timeless-gate-requires c κs = search needs
 
@@ -25,7 +28,8 @@ unfolding callEvent
 returns-2 c = search (way-timeless-settled, needs)
 
 pub poll-event-spec : {M : Type 1} → statement M
-poll-event-spec = tie.close (tie.spec timeless-gate-requires
+poll-event-spec = tie.close (tie.spec undamaged-requires
+    timeless-gate-requires
     refused-requires
     returns
     poll-event-requires

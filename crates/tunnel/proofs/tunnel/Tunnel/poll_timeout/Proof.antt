@@ -4,6 +4,9 @@ use borrow.Author.Needs.{needs}
 use Rattle.tunnel.proofs.tunnel.Tunnel.poll_timeout.Statement.{statement}
 use Rattle.tunnel.proofs.tunnel.Tunnel.poll_timeout.Tie as tie
 
+undamaged-requires : tie.Need-undamaged-requires
+undamaged-requires c κs = search needs
+
 timeless-gate-requires : tie.Need-timeless-gate-requires
 timeless-gate-requires c κs = search needs
 
@@ -21,7 +24,8 @@ returns-2 : tie.Need-returns-2
 returns-2 c = search (way-deadline, needs)
 
 pub poll-timeout-spec : {M : Type 1} → statement M
-poll-timeout-spec = tie.close (tie.spec timeless-gate-requires
+poll-timeout-spec = tie.close (tie.spec undamaged-requires
+    timeless-gate-requires
     refused-requires
     returns
     poll-timeout-requires

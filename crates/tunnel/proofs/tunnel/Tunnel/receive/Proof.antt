@@ -7,6 +7,9 @@ use Rattle.tunnel.proofs.tunnel.Tunnel.receive.Tie as tie
 bad-batch-requires : tie.Need-bad-batch-requires
 bad-batch-requires c κs = search needs
 
+undamaged-requires : tie.Need-undamaged-requires
+undamaged-requires c κs = search needs
+
 gate-requires : tie.Need-gate-requires
 gate-requires c κs = search needs
 
@@ -41,6 +44,7 @@ returns-2 c = search (way-batch-settled, needs)
 
 pub receive-spec : {M : Type 1} → statement M
 receive-spec = tie.close (tie.spec bad-batch-requires
+    undamaged-requires
     gate-requires
     refused-requires
     same-length

@@ -4,6 +4,9 @@ use borrow.Author.Needs.{needs}
 use Rattle.tunnel.proofs.tunnel.Tunnel.restart_handshake.Statement.{statement}
 use Rattle.tunnel.proofs.tunnel.Tunnel.restart_handshake.Tie as tie
 
+undamaged-requires : tie.Need-undamaged-requires
+undamaged-requires c κs = search needs
+
 gate-requires : tie.Need-gate-requires
 gate-requires c κs = search needs
 
@@ -25,7 +28,8 @@ unfolding callRestart
 returns-2 c = search (way-settled, needs)
 
 pub restart-handshake-spec : {M : Type 1} → statement M
-restart-handshake-spec = tie.close (tie.spec gate-requires
+restart-handshake-spec = tie.close (tie.spec undamaged-requires
+    gate-requires
     refused-requires
     returns
     restart-handshake-requires
