@@ -1,4 +1,5 @@
 // The tunnels that the cases begin with.
+use crate::turns::wakes;
 use control::answer::Answer;
 use parts::event::Event;
 use sessions::session::Time;
@@ -46,36 +47,38 @@ pub fn weight(answer: Answer) -> u64 {
 }
 
 // A tunnel that has sent its first initiation.
-pub fn started(store: &mut [u64], keepalive: u64) -> Tunnel {
+fn started(store: &mut [u64], keepalive: u64) -> Tunnel {
     let new = Tunnel::new(store, 256, keepalive, 0);
-    let created = new.tunnel;
-    let start = created.initiate_handshake(0);
+    let start = new.tunnel.initiate_handshake(0);
     start.tunnel
 }
 
 // A tunnel with one session and no event queued.
-pub fn established(store: &mut [u64], keepalive: u64) -> Tunnel {
+fn established(store: &mut [u64], keepalive: u64) -> Tunnel {
     let begun = started(store, keepalive);
     let response = begun.handle_handshake_response(store, INDEX, PEER, 0, 0);
-    let confirmed = response.tunnel;
-    let event = confirmed.poll_event();
+    let event = response.tunnel.poll_event();
     event.tunnel
 }
 
-// A tunnel whose session has received and sent data.
-pub fn carrying(store: &mut [u64]) -> Tunnel {
+// The tunnel after it received a message.
+fn received(tunnel: Tunnel, store: &mut [u64]) -> Tunnel {
     let counters = [5u64; 1];
     let kinds = [0u8; 1];
     let mut verdicts = [0u8; 1];
-    let tunnel = established(store, 25);
     let batch = tunnel.receive(store, INDEX, 0, 0, &counters, &kinds, &mut verdicts);
-    let received = batch.tunnel;
-    let send = received.send(1, 0);
+    batch.tunnel
+}
+
+// A tunnel whose session has received and sent data.
+fn carrying(store: &mut [u64]) -> Tunnel {
+    let receiver = received(established(store, 25), store);
+    let send = receiver.send(1, 0);
     send.tunnel
 }
 
-// A tunnel with eight sessions.
-pub fn filled(store: &mut [u64]) -> Tunnel {
+// A tunnel with eight sessions, woken sixteen times.
+fn filled(store: &mut [u64]) -> Tunnel {
     let mut tunnel = established(store, 1);
     let mut i = 0u64;
     while i < 7 {
@@ -83,5 +86,17 @@ pub fn filled(store: &mut [u64]) -> Tunnel {
         tunnel = initiation.tunnel;
         i = i + 1;
     }
-    tunnel
+    wakes(tunnel, store, 1_000_000_000, 16)
+}
+
+// The tunnel that a case begins with.
+pub fn begun(case: u8, store: &mut [u64]) -> Tunnel {
+    match case {
+        b's' => established(store, 0),
+        b'r' | b'm' => established(store, 25),
+        b'k' => established(store, 1),
+        b'f' => filled(store),
+        b'h' => started(store, 0),
+        _ => carrying(store),
+    }
 }

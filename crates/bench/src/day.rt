@@ -96,6 +96,21 @@ impl Day {
         self.after(response)
     }
 
+    // Data in both directions and a waking.
+    fn exchange(
+        self,
+        store: &mut [u64],
+        counters: &[u64],
+        kinds: &[u8],
+        verdicts: &mut [u8],
+        first: u64,
+    ) -> Day {
+        self.receive(store, counters, kinds, verdicts, first)
+            .send()
+            .wake(store)
+            .later(PAUSE)
+    }
+
     // The burst that begins at this place of the counters.
     fn burst(
         self,
@@ -112,21 +127,23 @@ impl Day {
         if end > counters.len() {
             return self;
         }
-        self.receive(store, &counters[start..end], kinds, verdicts, start as u64)
-            .send()
-            .wake(store)
-            .later(PAUSE)
+        self.exchange(store, &counters[start..end], kinds, verdicts, start as u64)
     }
 
     // The bursts of a session.
-    fn bursts(self, store: &mut [u64], counters: &[u64], kinds: &[u8], verdicts: &mut [u8]) -> Day {
-        let mut day = self;
+    fn bursts(
+        mut self,
+        store: &mut [u64],
+        counters: &[u64],
+        kinds: &[u8],
+        verdicts: &mut [u8],
+    ) -> Day {
         let mut start = 0;
         while start < 768 {
-            day = day.burst(store, counters, kinds, verdicts, start);
+            self = self.burst(store, counters, kinds, verdicts, start);
             start = start + 64;
         }
-        day
+        self
     }
 
     // The waking that schedules the next session's handshake, and the one that starts it.
@@ -143,30 +160,47 @@ impl Day {
     fn round(self, store: &mut [u64], counters: &[u64], kinds: &[u8], verdicts: &mut [u8]) -> Day {
         self.bursts(store, counters, kinds, verdicts).rekey(store)
     }
+
+    // Rounds, each with the messages of the first 768 counters.
+    fn rounds(
+        mut self,
+        store: &mut [u64],
+        counters: &[u64],
+        kinds: &[u8],
+        verdicts: &mut [u8],
+        turns: usize,
+    ) -> Day {
+        let mut i = 0;
+        while i < turns {
+            self = self.round(store, counters, kinds, verdicts);
+            i = i + 1;
+        }
+        self
+    }
+
+    // The tunnel at the day's end.
+    fn ended(self) -> Tunnel {
+        let mut tunnel = self.tunnel;
+        tunnel.greatest = std::num::wrapping_add_u64(self.now, self.sum % 2);
+        tunnel
+    }
 }
 
-// Rounds, each with the messages of the first 768 counters.
+// The tunnel after so many rounds.
 pub fn rounds(
-    begun: Tunnel,
+    tunnel: Tunnel,
     store: &mut [u64],
     counters: &[u64],
     kinds: &[u8],
     verdicts: &mut [u8],
     turns: usize,
 ) -> Tunnel {
-    let mut day = Day {
-        tunnel: begun,
+    let day = Day {
+        tunnel,
         now: 0,
         index: 257,
         id: 0,
         sum: 0,
     };
-    let mut i = 0;
-    while i < turns {
-        day = day.round(store, counters, kinds, verdicts);
-        i = i + 1;
-    }
-    let mut tunnel = day.tunnel;
-    tunnel.greatest = std::num::wrapping_add_u64(day.now, day.sum % 2);
-    tunnel
+    day.rounds(store, counters, kinds, verdicts, turns).ended()
 }

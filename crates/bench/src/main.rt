@@ -6,10 +6,7 @@ mod day;
 mod turns;
 
 use crate::begin::INDEX;
-use crate::begin::carrying;
-use crate::begin::established;
-use crate::begin::filled;
-use crate::begin::started;
+use crate::begin::begun;
 use crate::begin::weight;
 use crate::counters::fill;
 use crate::day::rounds;
@@ -59,7 +56,7 @@ fn length_of(letter: u8) -> usize {
     }
 }
 
-// The cases with a list, over so much of the kinds and the verdicts as a batch has.
+// The cases with a list.
 fn listed(
     tunnel: Tunnel,
     store: &mut [u64],
@@ -67,48 +64,51 @@ fn listed(
     kinds: &[u8],
     verdicts: &mut [u8],
     asked: Asked,
-    length: usize,
 ) -> Tunnel {
+    if asked.case == b'm' {
+        return rounds(tunnel, store, counters, kinds, verdicts, asked.turns);
+    }
+    receives(tunnel, store, counters, kinds, verdicts, asked.turns)
+}
+
+// The cases with a list, over so much of the kinds and the verdicts as a batch has.
+fn cut(
+    tunnel: Tunnel,
+    store: &mut [u64],
+    counters: &[u64],
+    kinds: &[u8],
+    verdicts: &mut [u8],
+    asked: Asked,
+) -> Tunnel {
+    let length = length_of(asked.length);
     if length > kinds.len() {
         return tunnel;
     }
     if length > verdicts.len() {
         return tunnel;
     }
-    if asked.case == b'm' {
-        return rounds(
-            tunnel,
-            store,
-            counters,
-            &kinds[0..length],
-            &mut verdicts[0..length],
-            asked.turns,
-        );
-    }
-    receives(
+    listed(
         tunnel,
         store,
         counters,
         &kinds[0..length],
         &mut verdicts[0..length],
-        asked.turns,
+        asked,
     )
 }
 
-// The cases without a list.
-fn alone(asked: Asked, store: &mut [u64]) -> Tunnel {
-    let tunnel = carrying(store);
-    let case = asked.case;
+// The time from one waking to the next.
+fn step_of(case: u8) -> u64 {
     match case {
-        b'l' => looks(tunnel, store, asked.turns),
-        b'i' => wakes(tunnel, store, 1, asked.turns),
-        b'd' => deadlines(tunnel, asked.turns),
-        _ => events(tunnel, asked.turns),
+        b'k' => 1_000_000_000,
+        b'h' => 5_000_000_000,
+        _ => 1,
     }
 }
 
 // Carries the case out.
 fn run(
+    tunnel: Tunnel,
     asked: Asked,
     store: &mut [u64],
     counters: &[u64],
@@ -117,20 +117,12 @@ fn run(
 ) -> Tunnel {
     let case = asked.case;
     match case {
-        b's' => sends(established(store, 0), asked.turns),
-        b'r' | b'm' => listed(
-            established(store, 25),
-            store,
-            counters,
-            kinds,
-            verdicts,
-            asked,
-            length_of(asked.length),
-        ),
-        b'k' => wakes(established(store, 1), store, 1_000_000_000, asked.turns),
-        b'f' => deadlines(wakes(filled(store), store, 1_000_000_000, 16), asked.turns),
-        b'h' => wakes(started(store, 0), store, 5_000_000_000, asked.turns),
-        _ => alone(asked, store),
+        b's' => sends(tunnel, asked.turns),
+        b'r' | b'm' => cut(tunnel, store, counters, kinds, verdicts, asked),
+        b'k' | b'h' | b'i' => wakes(tunnel, store, step_of(case), asked.turns),
+        b'l' => looks(tunnel, store, asked.turns),
+        b'd' | b'f' => deadlines(tunnel, asked.turns),
+        _ => events(tunnel, asked.turns),
     }
 }
 
@@ -176,6 +168,13 @@ fn main() {
     let count = io::count(got, &input);
     let asked = ask(&input[..count]);
     fill(&mut counters, asked.pattern);
-    let tunnel = run(asked, &mut store, &counters, &kinds, &mut verdicts);
+    let tunnel = run(
+        begun(asked.case, &mut store),
+        asked,
+        &mut store,
+        &counters,
+        &kinds,
+        &mut verdicts,
+    );
     report(tunnel, &store, &verdicts);
 }

@@ -4,8 +4,7 @@ use crate::begin::weight;
 use tunnel::tunnel::Tunnel;
 
 // Sends of one message.
-pub fn sends(begun: Tunnel, turns: usize) -> Tunnel {
-    let mut tunnel = begun;
+pub fn sends(mut tunnel: Tunnel, turns: usize) -> Tunnel {
     let mut now = 0;
     let mut i = 0;
     while i < turns {
@@ -19,37 +18,32 @@ pub fn sends(begun: Tunnel, turns: usize) -> Tunnel {
 
 // Batches of as many messages as there are kinds.
 pub fn receives(
-    begun: Tunnel,
+    mut tunnel: Tunnel,
     store: &mut [u64],
     counters: &[u64],
     kinds: &[u8],
     verdicts: &mut [u8],
     turns: usize,
 ) -> Tunnel {
-    let mut tunnel = begun;
     let mut now = 0;
     let mut start = 0;
     let mut i = 0;
     while i < turns {
-        i = i + 1;
-        let end = std::num::wrapping_add_usize(start, kinds.len());
-        if start > end {
+        if kinds.len() > counters.len() - start {
             return tunnel;
         }
-        if end > counters.len() {
-            return tunnel;
-        }
+        let end = start + kinds.len();
         let batch = tunnel.receive(store, INDEX, 0, now, &counters[start..end], kinds, verdicts);
         tunnel = batch.tunnel;
         now = std::num::wrapping_add_u64(now, 1);
         start = end;
+        i = i + 1;
     }
     tunnel
 }
 
 // Early looks at counters that follow each other.
-pub fn looks(begun: Tunnel, store: &[u64], turns: usize) -> Tunnel {
-    let mut tunnel = begun;
+pub fn looks(mut tunnel: Tunnel, store: &[u64], turns: usize) -> Tunnel {
     let mut sum = 0;
     let mut i = 0;
     while i < turns {
@@ -66,8 +60,7 @@ pub fn looks(begun: Tunnel, store: &[u64], turns: usize) -> Tunnel {
 }
 
 // Wakings at times that are a step apart.
-pub fn wakes(begun: Tunnel, store: &mut [u64], step: u64, turns: usize) -> Tunnel {
-    let mut tunnel = begun;
+pub fn wakes(mut tunnel: Tunnel, store: &mut [u64], step: u64, turns: usize) -> Tunnel {
     let mut now = step;
     let mut i = 0;
     while i < turns {
@@ -80,8 +73,7 @@ pub fn wakes(begun: Tunnel, store: &mut [u64], step: u64, turns: usize) -> Tunne
 }
 
 // Deadlines.
-pub fn deadlines(begun: Tunnel, turns: usize) -> Tunnel {
-    let mut tunnel = begun;
+pub fn deadlines(mut tunnel: Tunnel, turns: usize) -> Tunnel {
     let mut sum = 0;
     let mut i = 0;
     while i < turns {
@@ -97,8 +89,7 @@ pub fn deadlines(begun: Tunnel, turns: usize) -> Tunnel {
 }
 
 // Polls of an empty queue.
-pub fn events(begun: Tunnel, turns: usize) -> Tunnel {
-    let mut tunnel = begun;
+pub fn events(mut tunnel: Tunnel, turns: usize) -> Tunnel {
     let mut sum = 0;
     let mut i = 0;
     while i < turns {

@@ -3,15 +3,14 @@
 use mathlib.Core.Path.{_≡_, _∙_}
 use mathlib.Core.Bool.{false}
 use Prim.Native.Nat.{ℕ, _+_}
-use Rattle.control.specs.Control.{control, withSessions, withTimers, withEvents, outcome, newControl, queueing, pollEvent}
-use Rattle.control.specs.Deadlines.{earliestExpiry, cookieDeadline, rejectDeadline, handshakeRekeyTimeout, rekeyOnSend, rekeyAfterMessages, rekeyOnReceive, responseDeadline, passiveDeadline, currentPersistentDeadline, commonDeadline, rekeyDeadline, keepaliveDeadline}
-use Rattle.control.specs.Transport.{beginEncapsulate}
+use Rattle.control.specs.Control.{control, withTimers, withEvents, outcome, newControl, queueing, pollEvent}
+use Rattle.control.specs.Deadlines.{earliestExpiry, cookieDeadline, rejectDeadline, handshakeRekeyTimeout, foundOnSend, foundAfterMessages, foundOnReceive, rekeyOnSend, rekeyAfterMessages, rekeyOnReceive, responseDeadline, passiveDeadline, currentPersistentDeadline, commonDeadline, rekeyDeadline, keepaliveDeadline}
 use Rattle.control.specs.Waking.{scheduling}
 use Rattle.control.specs.declared.answer.Answer.the-variants.{Polled}
 use Rattle.control.specs.declared.control.Control.{Control}
 use Rattle.parts.specs.Handshake.{newHandshake, inFlightInitiation}
 use Rattle.parts.specs.RingBuffer.{newRing, pushBack, popFront}
-use Rattle.parts.specs.Timers.{newTimers, rekeyTimeoutOf, scheduleHandshake, tickLastPacketSent, tickLastDataPacketSent}
+use Rattle.parts.specs.Timers.{newTimers, rekeyTimeoutOf, scheduleHandshake}
 use Rattle.parts.specs.declared.event.Event.{Event}
 use Rattle.parts.specs.declared.handshake.Handshake.{Handshake}
 use Rattle.parts.specs.declared.ring_buffer.Popped.{Popped}
@@ -19,10 +18,10 @@ use Rattle.parts.specs.declared.ring_buffer.RingBuffer.{RingBuffer}
 use Rattle.parts.specs.declared.timers.Interval.{Interval}
 use Rattle.parts.specs.declared.timers.Timers.{Timers}
 use Rattle.sessions.specs.Session.{earlier}
-use Rattle.sessions.specs.Sessions.{newSessions, put}
-use Rattle.sessions.specs.declared.session.Session.{Session}
+use Rattle.sessions.specs.Sessions.{newSessions, currentOf}
 use Rattle.sessions.specs.declared.session.Time.the-variants.{Never}
 use Rattle.sessions.specs.declared.session.Time.{Time}
+use Rattle.sessions.specs.declared.sessions.Found.{Found}
 use Rattle.sessions.specs.declared.sessions.Sessions.{Sessions}
 
 -- a creation
@@ -47,12 +46,6 @@ module _ (c : Control) where
   unfolding scheduling
   chain-scheduled jitter now t p = rw p
 
-  -- data about to be sent
-  pub chain-begun : (session : Session) (now : ℕ) (sent t : Timers) (s : Sessions) → sent ≡ tickLastPacketSent (c .timers) now
-      → t ≡ tickLastDataPacketSent sent now → s ≡ put (c .sessions) session → withSessions (withTimers c t) s ≡ beginEncapsulate c session now
-  unfolding beginEncapsulate
-  chain-begun session now sent t s p q r = rw (r, q, p)
-
   -- deadlines
   pub chain-retry : (a r : Time) → a ≡ inFlightInitiation (c .handshake) → r ≡ rekeyTimeoutOf a → r ≡ handshakeRekeyTimeout c
   unfolding handshakeRekeyTimeout
@@ -63,10 +56,11 @@ module _ (c : Control) where
   unfolding commonDeadline
   chain-common a b d e r p q s t u = u ∙ rw (s, p, q, t)
 
-  pub chain-rekey : (a b d e f g r : Time) → a ≡ rekeyOnSend c → b ≡ rekeyAfterMessages c → d ≡ earlier a b → e ≡ rekeyOnReceive c
-      → f ≡ responseDeadline c → g ≡ earlier e f → r ≡ earlier d g → r ≡ rekeyDeadline c
-  unfolding rekeyDeadline
-  chain-rekey a b d e f g r p q s t u v w = w ∙ rw (s, p, q, v, t, u)
+  pub chain-rekey : (found : Found) (a b d e f g r : Time) → found ≡ currentOf (c .sessions) → a ≡ foundOnSend found
+      → b ≡ foundAfterMessages found (c .timers .«time_last_packet_sent») → d ≡ earlier a b → e ≡ foundOnReceive found → f ≡ responseDeadline c
+      → g ≡ earlier e f → r ≡ earlier d g → r ≡ rekeyDeadline c
+  unfolding rekeyDeadline rekeyOnSend rekeyAfterMessages rekeyOnReceive foundOnSend foundAfterMessages foundOnReceive
+  chain-rekey found a b d e f g r l p q s t u v w = w ∙ rw (s, p, q, v, t, u, l)
 
   pub chain-keepalive : (a b r : Time) → a ≡ passiveDeadline c → b ≡ currentPersistentDeadline c → r ≡ earlier a b → r ≡ keepaliveDeadline c
   unfolding keepaliveDeadline

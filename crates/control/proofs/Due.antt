@@ -5,12 +5,26 @@ use mathlib.Core.Bool.{Bool, true, false}
 use Prim.Native.Nat.{ℕ}
 use Rattle.base.specs.Choice.{choose}
 use Rattle.control.specs.Control.{expiredControl}
-use Rattle.control.specs.Deadlines.{scheduledHandshake, attemptDeadline, handshakeRekeyTimeout, commonDeadline, rekeyDeadline, keepaliveDeadline, nextDeadline, unscheduledDeadline, pollTimeout, notBefore}
+use Rattle.control.specs.Deadlines.{scheduledHandshake, attemptDeadline, handshakeRekeyTimeout, persistentDeadline, currentPersistentDeadline, commonDeadline, rekeyDeadline, keepaliveDeadline, nextDeadline, unscheduledDeadline, pollTimeout, notBefore}
 use Rattle.control.specs.declared.control.Control.{Control}
 use Rattle.parts.specs.RingBuffer.{ringIsEmpty}
 use Rattle.sessions.specs.Session.{caseTime, earlier}
+use Rattle.sessions.specs.Sessions.{caseFound, currentOf}
+use Rattle.sessions.specs.declared.session.Session.{Session}
 use Rattle.sessions.specs.declared.session.Time.the-variants.{Never, At}
 use Rattle.sessions.specs.declared.session.Time.{Time}
+use Rattle.sessions.specs.declared.sessions.Found.the-variants.{Nothing, Got}
+use Rattle.sessions.specs.declared.sessions.Found.{Found}
+
+-- the persistent keepalive's deadline, without and with a current session
+module _ (c : Control) (found : Found) (l : found ≡ currentOf (c .sessions)) where
+  pub due-without : found ≡ Nothing → Never ≡ currentPersistentDeadline c
+  unfolding currentPersistentDeadline caseFound
+  due-without n = rw (← l, n)
+
+  pub due-with : (session : Session) (out : Time) → found ≡ Got session → out ≡ persistentDeadline c → out ≡ currentPersistentDeadline c
+  unfolding currentPersistentDeadline caseFound
+  due-with session out g o = rw (← l, g) o
 
 -- the earliest deadline while no handshake is scheduled, without and with an initiation that awaits a response
 module _ (c : Control) (out inner common retry : Time) (h : out ≡ earlier common inner) (r : retry ≡ handshakeRekeyTimeout c) (m : common ≡ commonDeadline c) where

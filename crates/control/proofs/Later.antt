@@ -8,7 +8,7 @@ use native.Mathlib.Omega.{arith}
 use lib.Dec.{eqb}
 use Rattle.base.specs.Choice.{choose}
 use Rattle.control.specs.Facts.EventsWithin.{none, more}
-use Rattle.control.specs.Facts.{SlotWithin, SessionsWithin, EventWithin, EventsWithin, QueueWithin, ControlWithin}
+use Rattle.control.specs.Facts.{SlotWithin, SessionsWithin, FoundWithin, EventWithin, EventsWithin, QueueWithin, ControlWithin}
 use Rattle.control.specs.declared.control.Control.{Control}
 use Rattle.parts.specs.Handshake.{caseState, SentWithin, HandshakeWithin, inFlightInitiation}
 use Rattle.parts.specs.Timers.{maxJitter, TimeWithin, TimersWithin}
@@ -144,6 +144,13 @@ module _ (s : Sessions) (most : ℕ) (w : SessionsWithin s most) where
     unfolding currentOf
     current-within e = of-selected (s .current) x (sym e ∙ is)
 
-    -- what the current session's deadlines ask for
     pub current-established : found ≡ currentOf s → x .«established_at» ≤ most
     current-established e = current-within e .established
+
+  -- what the current session's deadlines ask for
+  pub current-known : (found : Found) → found ≡ currentOf s → FoundWithin found most
+  current-known found e = record { within = λ x is. current-established found x is e }
+
+-- what they ask for of a session that was found
+pub found-established : (found : Found) (x : Session) (most : ℕ) → FoundWithin found most → found ≡ Got x → x .«established_at» ≤ most
+found-established found x most w is = w .within x is

@@ -10,7 +10,6 @@ use lib.Dec.{ltb, leb}
 use borrow.Author.Tests.{ltb-true, ltb-false, leb-false, lt-leb}
 use Rattle.base.proofs.Choice.{no-flag}
 use Rattle.base.specs.Choice.{choose}
-use Rattle.control.proofs.Steps.{of-choice}
 use Rattle.control.specs.Deadlines.{scheduledHandshake, earliestExpiry, cookieDeadline, rejectDeadline, attemptDeadline, handshakeRekeyTimeout, rekeyOnSend, rekeyAfterMessages, rekeyOnReceive, responseDeadline, passiveDeadline, persistentDeadline, currentPersistentDeadline, commonDeadline, rekeyDeadline, keepaliveDeadline, unscheduledDeadline, nextDeadline}
 use Rattle.control.specs.Quiet.{Early, QuietLaw}
 use Rattle.control.specs.Waking.{inner, persistentKeepalive, keepalives, rekeyDue, wakeIdle, wakeInProgress, expireCookie, wakeLater, wakeRest, wakeCurrent, wakeSessions, wake}
@@ -18,9 +17,9 @@ use Rattle.control.specs.declared.control.Control.{Control}
 use Rattle.parts.specs.Timers.{caseInterval, nextPersistentKeepalive}
 use Rattle.parts.specs.declared.timers.Interval.the-variants.{Off}
 use Rattle.parts.specs.declared.timers.Interval.{Interval}
+use Rattle.sessions.proofs.Loops.{expire-none}
 use Rattle.sessions.specs.Session.{caseTime, dueBy, least, earlier, expiresAt, expiredAt}
-use Rattle.sessions.specs.Sessions.{caseFound, currentOf, slotAt, expiredSlot, Expiring, expireSlot, expireFirst, expire, slotExpiry, firstExpiry, nextExpiry}
-use Rattle.sessions.specs.Store.{whole}
+use Rattle.sessions.specs.Sessions.{caseFound, currentOf, slotAt, expiredSlot, firstUnexpired, expire, slotExpiry, firstExpiry, nextExpiry}
 use Rattle.sessions.specs.declared.session.Session.{Session}
 use Rattle.sessions.specs.declared.session.Time.the-variants.{Never, At}
 use Rattle.sessions.specs.declared.session.Time.{Time}
@@ -60,24 +59,16 @@ module _ (s : Sessions) (now : ℕ) where
   unfolding slotExpiry expiredSlot
   slot-quiet slot p = not-expired (slotAt s slot .filled) (slotAt s slot) p
 
-  slot-stays : (e : Expiring) (k : ℕ) → e .expired .sessions ≡ s → expiredSlot s k now ≡ false → expireSlot e k now ≡ e
-  unfolding expireSlot
-  slot-stays e k same p = otherwise (expiredSlot (e .expired .sessions) k now) _ _ e (ap (λ (x : Sessions). expiredSlot x k now) same ∙ p) refl
-
-  slots-quiet : (e : Expiring) (count : ℕ) → e .expired .sessions ≡ s → dueBy (firstExpiry s count) now ≡ false → expireFirst e count now ≡ e
-  unfolding expireFirst firstExpiry
-  slots-quiet e zero same p = refl
-  slots-quiet e (suc count) same p =
+  slots-quiet : (count : ℕ) → dueBy (firstExpiry s count) now ≡ false → firstUnexpired s count now ≡ true
+  unfolding firstExpiry firstUnexpired
+  slots-quiet zero p = refl
+  slots-quiet (suc count) p =
       let n = neither (firstExpiry s count) (slotExpiry s count) now p in
-      ap (λ (x : Expiring). expireSlot x count now) (slots-quiet e count same (n .first)) ∙ slot-stays e count same (slot-quiet count (n .second))
+      otherwise (expiredSlot s count now) _ _ true (slot-quiet count (n .second)) (slots-quiet count (n .first))
 
-  abbrev untouched : List ℕ → Expiring
-  untouched store = record { expired = record { sessions = s; current = Nothing }; store = store }
-
-  expire-quiet : (store : List ℕ) → dueBy (nextExpiry s) now ≡ false → expire s store now ≡ untouched store
-  unfolding expire
-  expire-quiet store p =
-      of-choice (λ (e : Expiring). e ≡ untouched store) (whole store) _ _ (slots-quiet (untouched store) 8 refl p) refl
+  expire-quiet : (store : List ℕ) → dueBy (nextExpiry s) now ≡ false
+      → expire s store now ≡ record { expired = record { sessions = s; current = Nothing }; store = store }
+  expire-quiet store p = expire-none s now store (slots-quiet 8 p)
 
 module _ (c : Control) (now : ℕ) where
   -- the persistent keepalive is not due: its deadline counts while a session is current, and without an interval there is none

@@ -7,18 +7,16 @@ use Prim.Native.Nat.{ℕ, zero, suc, _<_}
 use native.Mathlib.Omega.{arith}
 use lib.ListN.{length, getD, set, getD-replicate}
 use Rattle.base.specs.Choice.{choose}
-use Rattle.control.proofs.Kept.{on-push, on-consume, on-clear-cookie}
+use Rattle.control.proofs.Kept.{on-push, on-clear-cookie}
 use Rattle.control.specs.Control.{withHandshake, withSessions, withTimers, queueing}
 use Rattle.control.specs.Facts.{SlotWithin, SessionsWithin, EventWithin, ControlWithin}
 use Rattle.control.specs.Messages.{initiate, initiating}
-use Rattle.control.specs.Transport.{encryptKeepalive}
-use Rattle.control.specs.Waking.{clearAll, expireCookie}
+use Rattle.control.specs.Waking.{clearAll}
 use Rattle.control.specs.declared.control.Control.{Control}
 use Rattle.control.specs.declared.messages.Initiated.{Initiated}
-use Rattle.control.specs.declared.transport.Encrypted.{Encrypted}
-use Rattle.parts.specs.Handshake.{HandshakeWithin}
+use Rattle.parts.specs.Handshake.{HandshakeWithin, expireCookieOf}
 use Rattle.parts.specs.RingBuffer.{RingWithin}
-use Rattle.parts.specs.Timers.{TimersWithin, consumePassiveKeepalive}
+use Rattle.parts.specs.Timers.{TimersWithin}
 use Rattle.parts.specs.declared.event.Event.{Event}
 use Rattle.parts.specs.declared.handshake.Handshake.{Handshake}
 use Rattle.parts.specs.declared.timers.Timers.{Timers}
@@ -122,13 +120,11 @@ module _ (c : Control) (most : ℕ) (w : ControlWithin c most) where
   with-sessions s v = record { timers = w .timers; handshake = w .handshake; first = w .first; sessions = v; events = w .events }
 
   -- the steps of the waking, as the code has them in locals
-  pub consumed-within : (t : Timers) → t ≡ consumePassiveKeepalive (c .timers) → ControlWithin (withTimers c t) most
-  consumed-within t e = with-timers t (rw e (on-consume (c .timers) most (w .timers)))
-
-  pub cookie-within : (x : Control) (now : ℕ) → x ≡ expireCookie c now → ControlWithin x most
-  unfolding expireCookie
-  cookie-within x now e =
-      rw e (of-choice (λ (y : Control). ControlWithin y most) _ _ c (with-handshake _ (on-clear-cookie (c .handshake) most (w .handshake))) w)
+  pub cookie-within : (h : Handshake) (now : ℕ) → h ≡ expireCookieOf (c .handshake) now → ControlWithin (withHandshake c h) most
+  unfolding expireCookieOf
+  cookie-within h now e =
+      with-handshake h
+      (rw e (of-choice (λ (y : Handshake). HandshakeWithin y most) _ _ (c .handshake) (on-clear-cookie (c .handshake) most (w .handshake)) (w .handshake)))
 
   pub expiry-within : (e : Expired) (store left : List ℕ) (now : ℕ)
       → Leaves e (expire (c .sessions) store now .expired) left (expire (c .sessions) store now .store) → ControlWithin (withSessions c (e .sessions)) most
@@ -145,19 +141,11 @@ module _ (c : Control) (most : ℕ) (w : ControlWithin c most) where
         events = on-push most (c .events) long (w .events) event v;
       }
 
--- what an encrypted keepalive's control queues
-abbrev RingOf : Encrypted → Type 0
-RingOf x = RingWithin (x .control .events)
-
--- the ring of events stays in range where a control is cleared, a keepalive sent or an initiation sent
+-- the ring of events stays in range where a control is cleared or an initiation sent
 module _ (c : Control) (now : ℕ) (r : RingWithin (c .events)) where
   pub cleared-ring : (x : Control) (store left : List ℕ) → Leaves x (clearAll c store now .control) left (clearAll c store now .store) → RingWithin (x .events)
   unfolding clearAll
   cleared-ring x store left l = rw (l .out) r
-
-  pub keepalive-ring : (x : Encrypted) → x ≡ encryptKeepalive c now → RingWithin (x .control .events)
-  unfolding encryptKeepalive
-  keepalive-ring x e = rw e (of-found RingOf _ _ _ r (λ s. of-reserved RingOf _ _ _ r (λ n t. r)))
 
   pub initiated-ring : (x : Initiated) → x ≡ initiate c now → RingWithin (x .control .events)
   unfolding initiate initiating

@@ -1,29 +1,34 @@
 -- One law for each way out of the waking: what the code hands back is what the definition says, under the tests that led there.
 -- Assumes nothing.
-use mathlib.Core.Path.{_≡_, refl}
+use mathlib.Core.Path.{_≡_, refl, sym, _∙_}
 use mathlib.Core.Bool.{Bool, true, false}
 use mathlib.Core.List.{List}
-use Prim.Native.Nat.{ℕ}
+use Prim.Native.Nat.{ℕ, _+_}
+use native.Mathlib.Omega.{arith}
 use Rattle.base.specs.Choice.{choose}
-use Rattle.control.specs.Control.{Inner, withHandshake, withSessions, withTimers, outcome, done, expiredControl, queueing}
-use Rattle.control.specs.Deadlines.{scheduledHandshake, cookieDeadline, rejectDeadline, attemptDeadline, handshakeRekeyTimeout, rekeyOnSend, rekeyAfterMessages, rekeyOnReceive, responseDeadline, passiveDeadline, persistentDeadline}
+use Rattle.control.proofs.Chains.{chain-scheduled}
+use Rattle.control.specs.Control.{Inner, withHandshake, withSessions, withTimers, withEvents, outcome, done, expiredControl, queueing}
+use Rattle.control.specs.Deadlines.{scheduledHandshake, cookieDeadline, rejectDeadline, attemptDeadline, handshakeRekeyTimeout, foundOnSend, foundAfterMessages, foundOnReceive, rekeyOnSend, rekeyAfterMessages, rekeyOnReceive, responseDeadline, passiveDeadline, persistentDeadline}
 use Rattle.control.specs.Messages.{initiate}
 use Rattle.control.specs.Transport.{caseDatagram, encryptKeepalive}
-use Rattle.control.specs.Waking.{clearAll, expireControl, scheduling, queueKeepalive, persistentKeepalive, keepalives, rekeyDue, wakeIdle, wakeInProgress, expireCookie, wakeLater, wakeRest, isLost, isReplaced, wakeCurrent, wakeSessions, sendScheduled, wake, handleTimeout}
+use Rattle.control.specs.Waking.{clearAll, expireControl, scheduling, queueKeepalive, persistentKeepalive, keepaliveDue, keepaliveTimers, sendKeepalive, keepalives, rekeyDue, wakeIdle, wakeInProgress, expireCookie, wakeLater, wakeRest, isLost, isReplaced, wakeCurrent, wakeSessions, sendScheduled, wake, handleTimeout}
 use Rattle.control.specs.declared.answer.Answer.the-variants.{NoAnswer}
 use Rattle.control.specs.declared.control.Control.{Control}
 use Rattle.control.specs.declared.control.Out.{Out}
 use Rattle.control.specs.declared.messages.Initiated.{Initiated}
-use Rattle.control.specs.declared.transport.Datagram.the-variants.{Skipped, Sent}
-use Rattle.control.specs.declared.transport.Encrypted.{Encrypted}
-use Rattle.parts.specs.Handshake.{setExpired, clearCookie}
-use Rattle.parts.specs.Timers.{clearTimers, cancelScheduledHandshake, consumePassiveKeepalive, tickPersistentKeepalive}
+use Rattle.parts.specs.Handshake.{setExpired, cookieExpiration, clearCookie, expireCookieOf}
+use Rattle.parts.specs.RingBuffer.{pushBack}
+use Rattle.parts.specs.Timers.{nextPersistentKeepalive, clearTimers, tickLastPacketSent, scheduleHandshake, cancelScheduledHandshake, consumePassiveKeepalive, tickPersistentKeepalive}
 use Rattle.parts.specs.declared.event.Event.the-variants.{SendHandshakeInitiation, SendKeepalive, ConnectionExpired}
 use Rattle.parts.specs.declared.handshake.Handshake.{Handshake}
+use Rattle.parts.specs.declared.ring_buffer.RingBuffer.{RingBuffer}
 use Rattle.parts.specs.declared.timers.Timers.{Timers}
-use Rattle.sessions.specs.Session.{caseTime, dueBy}
-use Rattle.sessions.specs.Sessions.{caseFound, clear, expire}
+use Rattle.sessions.proofs.Loops.{expire-none}
+use Rattle.sessions.specs.Session.{caseTime, caseReserved, dueBy, reserveCounters}
+use Rattle.sessions.specs.Sessions.{caseFound, currentOf, put, sendingSession, clear, noneExpired, expire}
 use Rattle.sessions.specs.Store.{Leaves}
+use Rattle.sessions.specs.declared.session.Reserved.the-variants.{TooFew, First}
+use Rattle.sessions.specs.declared.session.Reserved.{Reserved}
 use Rattle.sessions.specs.declared.session.Session.{Session}
 use Rattle.sessions.specs.declared.session.Time.the-variants.{Never, At}
 use Rattle.sessions.specs.declared.session.Time.{Time}
@@ -49,117 +54,231 @@ pub ended : (c x out : Control) (h : Handshake) (store left : List ℕ) (now : �
 unfolding expireControl
 ended c x out h store left now o l e = record { out = rw (o, l .out, e); words = rw (l .words, e) }
 
--- no keepalive was sent, and one was
-module _ (c : Control) (now : ℕ) (x : Encrypted) (e : x ≡ encryptKeepalive c now) where
-  pub skipped : x .keepalive ≡ Skipped → x .control ≡ queueKeepalive c now
-  unfolding queueKeepalive caseDatagram
-  skipped p = rw (← e, p)
+-- a keepalive: no session for one, too few counters for one, and one sent
+module _ (c : Control) (now : ℕ) (found : Found) (s : found ≡ sendingSession (c .sessions) now) where
+  pub queued-none : found ≡ Nothing → c ≡ queueKeepalive c now
+  unfolding queueKeepalive encryptKeepalive caseDatagram caseFound
+  queued-none n = rw (← s, n)
 
-  pub sent : (out : Control) (peer counter : ℕ) → x .keepalive ≡ Sent peer counter → out ≡ queueing (x .control) (SendKeepalive peer counter)
-      → out ≡ queueKeepalive c now
-  unfolding queueKeepalive caseDatagram
-  sent out peer counter p o = rw (← e, p) o
+  module _ (session : Session) (g : found ≡ Got session) (reserved : Reserved) (r : reserved ≡ reserveCounters session 1) where
+    pub queued-few : reserved ≡ TooFew → c ≡ queueKeepalive c now
+    unfolding queueKeepalive encryptKeepalive caseDatagram caseFound caseReserved
+    queued-few n = rw (← s, g, ← r, n)
 
--- the persistent keepalive that is due, the one that is required anyway, and none
-module _ (c : Control) (required : Bool) (now : ℕ) (flag : Bool) (at : Time) (a : at ≡ persistentDeadline c) (f : flag ≡ dueBy at now) where
-  pub persistent-due : (out : Control) (t : Timers) → flag ≡ true → out ≡ queueKeepalive (withTimers c t) now
-      → t ≡ tickPersistentKeepalive (c .timers) now → out ≡ persistentKeepalive c required now
-  unfolding persistentKeepalive choose
-  persistent-due out t y o e = rw (← a, ← f, y, ← e) o
+    pub queued-one : (counter : ℕ) (counted : Session) (after : Sessions) (t : Timers) (events : RingBuffer) → reserved ≡ First counter counted
+        → after ≡ put (c .sessions) counted → t ≡ tickLastPacketSent (c .timers) now
+        → events ≡ pushBack (c .events) (SendKeepalive (counted .«sending_index») counter)
+        → withEvents (withTimers (withSessions c after) t) events ≡ queueKeepalive c now
+    unfolding queueKeepalive encryptKeepalive caseDatagram caseFound caseReserved queueing
+    queued-one counter counted after t events p q u v = rw (← s, g, ← r, p, q, u, v)
 
-  pub persistent-required : (out : Control) → flag ≡ false → required ≡ true → out ≡ queueKeepalive c now → out ≡ persistentKeepalive c required now
-  unfolding persistentKeepalive choose
-  persistent-required out n y o = rw (← a, ← f, n, y) o
+-- a keepalive is due, the passive one or the persistent one
+module _ (c : Control) (now : ℕ) (flag : Bool) (at : Time) (a : at ≡ passiveDeadline c) (f : flag ≡ dueBy at now) where
+  pub passive-due : flag ≡ true → true ≡ keepaliveDue c now
+  unfolding keepaliveDue choose
+  passive-due y = rw (← a, ← f, y)
 
-  pub persistent-none : flag ≡ false → required ≡ false → c ≡ persistentKeepalive c required now
-  unfolding persistentKeepalive choose
-  persistent-none n m = rw (← a, ← f, n, m)
+  pub passive-none : (out : Bool) (next : Time) → flag ≡ false → next ≡ persistentDeadline c → out ≡ dueBy next now → out ≡ keepaliveDue c now
+  unfolding keepaliveDue choose
+  passive-none out next n b o = rw (← a, ← f, n, ← b) o
 
--- the passive keepalive is due, and is not
-module _ (c out : Control) (now : ℕ) (flag : Bool) (at : Time) (a : at ≡ passiveDeadline c) (f : flag ≡ dueBy at now) where
-  pub passive-due : (t : Timers) → flag ≡ true → out ≡ persistentKeepalive (withTimers c t) true now → t ≡ consumePassiveKeepalive (c .timers)
-      → out ≡ keepalives c now
-  unfolding keepalives choose
-  passive-due t y o e = rw (← a, ← f, y, ← e) o
+-- the timers after both keepalives, after the passive one, after the persistent one, and after none
+module _ (c : Control) (now : ℕ) (persistent : Bool) (next : Time) (b : next ≡ persistentDeadline c) (g : persistent ≡ dueBy next now) (passive : Bool) (last : Time) (a : last ≡ passiveDeadline c) (f : passive ≡ dueBy last now) where
+  module _ (y : passive ≡ true) (t : Timers) (p : t ≡ consumePassiveKeepalive (c .timers)) where
+    pub timers-both : (out : Timers) → persistent ≡ true → out ≡ tickPersistentKeepalive t now → out ≡ keepaliveTimers c now
+    unfolding keepaliveTimers choose
+    timers-both out z o = rw (← a, ← f, y, ← b, ← g, z, ← p) o
 
-  pub passive-none : flag ≡ false → out ≡ persistentKeepalive c false now → out ≡ keepalives c now
-  unfolding keepalives choose
-  passive-none n o = rw (← a, ← f, n) o
+    pub timers-passive : persistent ≡ false → t ≡ keepaliveTimers c now
+    unfolding keepaliveTimers choose
+    timers-passive z = rw (← a, ← f, y, ← b, ← g, z, ← p)
+
+  module _ (n : passive ≡ false) where
+    pub timers-persistent : (out : Timers) → persistent ≡ true → out ≡ tickPersistentKeepalive (c .timers) now → out ≡ keepaliveTimers c now
+    unfolding keepaliveTimers choose
+    timers-persistent out z o = rw (← a, ← f, n, ← b, ← g, z) o
+
+    pub timers-kept : persistent ≡ false → c .timers ≡ keepaliveTimers c now
+    unfolding keepaliveTimers choose
+    timers-kept z = rw (← a, ← f, n, ← b, ← g, z)
+
+-- a keepalive sent
+pub sent-keepalive : (c out : Control) (now : ℕ) (t : Timers) → t ≡ keepaliveTimers c now → out ≡ queueKeepalive (withTimers c t) now
+    → out ≡ sendKeepalive c now
+unfolding sendKeepalive
+sent-keepalive c out now t p o = rw (← p) o
+
+-- the keepalives, where one is due and where none is, by whether the passive one and the persistent one are
+module _ (c : Control) (now : ℕ) where
+  keepalives-by : (passive persistent : Bool) → dueBy (passiveDeadline c) now ≡ passive → dueBy (persistentDeadline c) now ≡ persistent
+      → choose passive true persistent ≡ true → queueKeepalive (withTimers c (keepaliveTimers c now)) now ≡ keepalives c now
+  unfolding keepalives persistentKeepalive keepaliveTimers persistentDeadline nextPersistentKeepalive consumePassiveKeepalive choose
+  keepalives-by true true e f d = rw (e, f)
+  keepalives-by true false e f d = rw (e, f)
+  keepalives-by false true e f d = rw (e, f)
+  keepalives-by false false e f d = let z : _≡_ {A = ℕ} 0 1 = cc in absurd (omega arith)
+
+  none-by : (passive persistent : Bool) → dueBy (passiveDeadline c) now ≡ passive → dueBy (persistentDeadline c) now ≡ persistent
+      → choose passive true persistent ≡ false → c ≡ keepalives c now
+  unfolding keepalives persistentKeepalive choose
+  none-by true persistent e f d = let z : _≡_ {A = ℕ} 0 1 = cc in absurd (omega arith)
+  none-by false true e f d = let z : _≡_ {A = ℕ} 0 1 = cc in absurd (omega arith)
+  none-by false false e f d = rw (e, f)
+
+  keepalives-due : keepaliveDue c now ≡ true → sendKeepalive c now ≡ keepalives c now
+  unfolding keepaliveDue sendKeepalive
+  keepalives-due d = keepalives-by (dueBy (passiveDeadline c) now) (dueBy (persistentDeadline c) now) refl refl d
+
+  keepalives-none : keepaliveDue c now ≡ false → c ≡ keepalives c now
+  unfolding keepaliveDue
+  keepalives-none d = none-by (dueBy (passiveDeadline c) now) (dueBy (persistentDeadline c) now) refl refl d
 
 -- a handshake is required for the first, the second or the third reason, or by the fourth alone
-module _ (c : Control) (now : ℕ) (flag : Bool) (at : Time) (a : at ≡ rekeyOnSend c) (f : flag ≡ dueBy at now) where
+module _ (c : Control) (now : ℕ) (found : Found) (l : found ≡ currentOf (c .sessions)) (flag : Bool) (at : Time) (a : at ≡ foundOnSend found) (f : flag ≡ dueBy at now) where
   pub rekey-first : flag ≡ true → true ≡ rekeyDue c now
-  unfolding rekeyDue choose
-  rekey-first y = rw (← a, ← f, y)
+  unfolding rekeyDue rekeyOnSend foundOnSend choose
+  rekey-first y = rw (← l, ← a, ← f, y)
 
-  module _ (n : flag ≡ false) (flag2 : Bool) (at2 : Time) (a2 : at2 ≡ rekeyAfterMessages c) (f2 : flag2 ≡ dueBy at2 now) where
+  module _ (n : flag ≡ false) (flag2 : Bool) (at2 : Time) (a2 : at2 ≡ foundAfterMessages found (c .timers .«time_last_packet_sent»)) (f2 : flag2 ≡ dueBy at2 now) where
     pub rekey-second : flag2 ≡ true → true ≡ rekeyDue c now
-    unfolding rekeyDue choose
-    rekey-second y = rw (← a, ← f, n, ← a2, ← f2, y)
+    unfolding rekeyDue rekeyOnSend rekeyAfterMessages foundOnSend foundAfterMessages choose
+    rekey-second y = rw (← l, ← a, ← f, n, ← a2, ← f2, y)
 
-    module _ (n2 : flag2 ≡ false) (flag3 : Bool) (at3 : Time) (a3 : at3 ≡ rekeyOnReceive c) (f3 : flag3 ≡ dueBy at3 now) where
+    module _ (n2 : flag2 ≡ false) (flag3 : Bool) (at3 : Time) (a3 : at3 ≡ foundOnReceive found) (f3 : flag3 ≡ dueBy at3 now) where
       pub rekey-third : flag3 ≡ true → true ≡ rekeyDue c now
-      unfolding rekeyDue choose
-      rekey-third y = rw (← a, ← f, n, ← a2, ← f2, n2, ← a3, ← f3, y)
+      unfolding rekeyDue rekeyOnSend rekeyAfterMessages rekeyOnReceive foundOnSend foundAfterMessages foundOnReceive choose
+      rekey-third y = rw (← l, ← a, ← f, n, ← a2, ← f2, n2, ← a3, ← f3, y)
 
       pub rekey-fourth : (out : Bool) (at4 : Time) → flag3 ≡ false → at4 ≡ responseDeadline c → out ≡ dueBy at4 now → out ≡ rekeyDue c now
-      unfolding rekeyDue choose
-      rekey-fourth out at4 n3 a4 o = rw (← a, ← f, n, ← a2, ← f2, n2, ← a3, ← f3, n3, ← a4) o
+      unfolding rekeyDue rekeyOnSend rekeyAfterMessages rekeyOnReceive foundOnSend foundAfterMessages foundOnReceive choose
+      rekey-fourth out at4 n3 a4 o = rw (← l, ← a, ← f, n, ← a2, ← f2, n2, ← a3, ← f3, n3, ← a4) o
 
 -- an initiation awaits a response: given up, retried, required, or waited for
 module _ (c : Control) (store : List ℕ) (required : Bool) (jitter now : ℕ) (flag : Bool) (at : Time) (a : at ≡ attemptDeadline c) (f : flag ≡ dueBy at now) where
-  pub progress-ended : (out : Control) (left : List ℕ) → flag ≡ true → Makes out left (expireControl c store now)
+  progress-ended : (out : Control) (left : List ℕ) → flag ≡ true → Makes out left (expireControl c store now)
       → Makes out left (wakeInProgress c store required jitter now)
   unfolding wakeInProgress choose
   progress-ended out left y o = rw (← a, ← f, y) o
 
   module _ (n : flag ≡ false) (retried : Bool) (retry : Time) (b : retry ≡ handshakeRekeyTimeout c) (g : retried ≡ dueBy retry now) where
-    pub progress-retried : (out : Control) → retried ≡ true → out ≡ scheduling c jitter now → Makes out store (wakeInProgress c store required jitter now)
+    progress-retried : (out : Control) → retried ≡ true → out ≡ scheduling c jitter now → Makes out store (wakeInProgress c store required jitter now)
     unfolding wakeInProgress choose
     progress-retried out y o = rw (← a, ← f, n, ← b, ← g, y) (record { out = o; words = refl })
 
-    pub progress-required : (out : Control) → retried ≡ false → required ≡ true → out ≡ scheduling c jitter now
+    progress-required : (out : Control) → retried ≡ false → required ≡ true → out ≡ scheduling c jitter now
         → Makes out store (wakeInProgress c store required jitter now)
     unfolding wakeInProgress choose
     progress-required out m y o = rw (← a, ← f, n, ← b, ← g, m, y) (record { out = o; words = refl })
 
-    pub progress-waited : (out : Control) (left : List ℕ) → retried ≡ false → required ≡ false → left ≡ store → out ≡ c
+    progress-waited : (out : Control) (left : List ℕ) → retried ≡ false → required ≡ false → left ≡ store → out ≡ c
         → Makes out left (wakeInProgress c store required jitter now)
     unfolding wakeInProgress choose
     progress-waited out left m k l o = rw (← a, ← f, n, ← b, ← g, m, k) (record { out = o; words = l })
 
--- the cookie that is due, and one that is not
-module _ (c : Control) (now : ℕ) (flag : Bool) (at : Time) (a : at ≡ cookieDeadline c) (f : flag ≡ dueBy at now) where
-  pub cookie-due : (h : Handshake) → flag ≡ true → h ≡ clearCookie (c .handshake) → withHandshake c h ≡ expireCookie c now
-  unfolding expireCookie choose
-  cookie-due h y e = rw (← a, ← f, y, e)
+-- no initiation awaits a response: a handshake is required, or due, or keepalives are
+module _ (c : Control) (required : Bool) (jitter now : ℕ) (out : Control) where
+  idle-required : required ≡ true → out ≡ scheduling c jitter now → out ≡ wakeIdle c required jitter now
+  unfolding wakeIdle choose
+  idle-required y o = rw y o
 
-  pub cookie-kept : flag ≡ false → c ≡ expireCookie c now
-  unfolding expireCookie choose
-  cookie-kept n = rw (← a, ← f, n)
+  idle-rekeyed : required ≡ false → rekeyDue c now ≡ true → out ≡ scheduling c jitter now → out ≡ wakeIdle c required jitter now
+  unfolding wakeIdle choose
+  idle-rekeyed n y o = rw (n, y) o
+
+  idle-kept : required ≡ false → rekeyDue c now ≡ false → out ≡ keepalives c now → out ≡ wakeIdle c required jitter now
+  unfolding wakeIdle choose
+  idle-kept n m o = rw (n, m) o
+
+-- the cookie dropped if it has expired
+cookie-choice : (c : Control) (flag : Bool) (h : Handshake) → withHandshake c (choose flag h (c .handshake)) ≡ choose flag (withHandshake c h) c
+unfolding choose
+cookie-choice c true h = refl
+cookie-choice c false h = refl
+
+cookie-dropped : (c : Control) (h : Handshake) (now : ℕ) → h ≡ expireCookieOf (c .handshake) now → withHandshake c h ≡ expireCookie c now
+unfolding expireCookie expireCookieOf cookieDeadline
+cookie-dropped c h now e = rw e (cookie-choice c (dueBy (cookieExpiration (c .handshake)) now) (clearCookie (c .handshake)))
 
 -- the connection expires for want of a handshake; no initiation awaits a response, or one does
 module _ (c : Control) (store : List ℕ) (required : Bool) (jitter now : ℕ) (flag : Bool) (at : Time) (a : at ≡ rejectDeadline c) (f : flag ≡ dueBy at now) where
-  pub later-ended : (out : Control) (left : List ℕ) → flag ≡ true → Makes out left (expireControl c store now)
+  later-ended : (out : Control) (left : List ℕ) → flag ≡ true → Makes out left (expireControl c store now)
       → Makes out left (wakeLater c store required jitter now)
   unfolding wakeLater choose
   later-ended out left y o = rw (← a, ← f, y) o
 
   module _ (n : flag ≡ false) (retry : Time) (b : retry ≡ handshakeRekeyTimeout c) where
-    pub later-idle : (out : Control) → retry ≡ Never → out ≡ wakeIdle c required jitter now → Makes out store (wakeLater c store required jitter now)
+    later-idle : (out : Control) → retry ≡ Never → out ≡ wakeIdle c required jitter now → Makes out store (wakeLater c store required jitter now)
     unfolding wakeLater choose caseTime
     later-idle out m o = rw (← a, ← f, n, ← b, m) (record { out = o; words = refl })
 
-    pub later-progress : (out : Control) (left : List ℕ) (sent : ℕ) → retry ≡ At sent → Makes out left (wakeInProgress c store required jitter now)
+    later-progress : (out : Control) (left : List ℕ) (sent : ℕ) → retry ≡ At sent → Makes out left (wakeInProgress c store required jitter now)
         → Makes out left (wakeLater c store required jitter now)
     unfolding wakeLater choose caseTime
     later-progress out left sent m o = rw (← a, ← f, n, ← b, m) o
 
--- the rest of the waking, once the cookie is dropped
-pub rested : (c x out : Control) (store left : List ℕ) (required : Bool) (jitter now : ℕ) → Makes out left (wakeLater x store required jitter now)
-    → x ≡ expireCookie c now → Makes out left (wakeRest c store required jitter now)
-unfolding wakeRest
-rested c x out store left required jitter now o e = rw (← e) o
+-- the rest of the waking, once the cookie is dropped: the connection expires for want of a handshake
+module _ (c : Control) (h : Handshake) (store : List ℕ) (required : Bool) (jitter now : ℕ) (e : h ≡ expireCookieOf (c .handshake) now) (flag : Bool) (at : Time) (a : at ≡ rejectDeadline (withHandshake c h)) (f : flag ≡ dueBy at now) where
+  rested : (out : Control) (left : List ℕ) → Makes out left (wakeLater (withHandshake c h) store required jitter now)
+      → Makes out left (wakeRest c store required jitter now)
+  unfolding wakeRest
+  rested out left o = rw (← cookie-dropped c h now e) o
+
+  pub rest-ended : (out : Control) (left : List ℕ) → flag ≡ true → Makes out left (expireControl (withHandshake c h) store now)
+      → Makes out left (wakeRest c store required jitter now)
+  rest-ended out left y o = rested out left (later-ended (withHandshake c h) store required jitter now flag at a f out left y o)
+
+  module _ (n : flag ≡ false) (retry : Time) (b : retry ≡ handshakeRekeyTimeout (withHandshake c h)) where
+    -- no initiation awaits a response: a handshake is required, or due, or keepalives are
+    module _ (m : retry ≡ Never) where
+      idle : (out : Control) → out ≡ wakeIdle (withHandshake c h) required jitter now → Makes out store (wakeRest c store required jitter now)
+      idle out o = rested out store (later-idle (withHandshake c h) store required jitter now flag at a f n retry b out m o)
+
+      pub rest-required : (t : Timers) → required ≡ true → t ≡ scheduleHandshake (c .timers) (now + jitter)
+          → Makes (withTimers (withHandshake c h) t) store (wakeRest c store required jitter now)
+      rest-required t y p = idle _ (idle-required (withHandshake c h) required jitter now _ y (chain-scheduled (withHandshake c h) jitter now t p))
+
+      module _ (k : required ≡ false) (due : Bool) (d : due ≡ rekeyDue (withHandshake c h) now) where
+        pub rest-rekeyed : (t : Timers) → due ≡ true → t ≡ scheduleHandshake (c .timers) (now + jitter)
+            → Makes (withTimers (withHandshake c h) t) store (wakeRest c store required jitter now)
+        rest-rekeyed t y p =
+            idle _ (idle-rekeyed (withHandshake c h) required jitter now _ k (sym d ∙ y) (chain-scheduled (withHandshake c h) jitter now t p))
+
+        module _ (z : due ≡ false) (keeps : Bool) (s : keeps ≡ keepaliveDue (withHandshake c h) now) where
+          kept : (out : Control) → out ≡ keepalives (withHandshake c h) now → Makes out store (wakeRest c store required jitter now)
+          kept out o = idle out (idle-kept (withHandshake c h) required jitter now out k (sym d ∙ z) o)
+
+          pub rest-kept : (out : Control) → keeps ≡ true → out ≡ sendKeepalive (withHandshake c h) now → Makes out store (wakeRest c store required jitter now)
+          rest-kept out y o = kept out (o ∙ keepalives-due (withHandshake c h) now (sym s ∙ y))
+
+          pub rest-quiet : keeps ≡ false → Makes (withHandshake c h) store (wakeRest c store required jitter now)
+          rest-quiet y = kept (withHandshake c h) (keepalives-none (withHandshake c h) now (sym s ∙ y))
+
+    -- an initiation awaits a response: given up, retried, required, or waited for
+    module _ (sent : ℕ) (m : retry ≡ At sent) (given : Bool) (until : Time) (u : until ≡ attemptDeadline (withHandshake c h)) (g : given ≡ dueBy until now) where
+      progress : (out : Control) (left : List ℕ) → Makes out left (wakeInProgress (withHandshake c h) store required jitter now)
+          → Makes out left (wakeRest c store required jitter now)
+      progress out left o = rested out left (later-progress (withHandshake c h) store required jitter now flag at a f n retry b out left sent m o)
+
+      pub rest-given-up : (out : Control) (left : List ℕ) → given ≡ true → Makes out left (expireControl (withHandshake c h) store now)
+          → Makes out left (wakeRest c store required jitter now)
+      rest-given-up out left y o = progress out left (progress-ended (withHandshake c h) store required jitter now given until u g out left y o)
+
+      module _ (k : given ≡ false) (retried : Bool) (r : retried ≡ dueBy retry now) where
+        pub rest-retried : (t : Timers) → retried ≡ true → t ≡ scheduleHandshake (c .timers) (now + jitter)
+            → Makes (withTimers (withHandshake c h) t) store (wakeRest c store required jitter now)
+        rest-retried t y p =
+            progress _ store (progress-retried (withHandshake c h) store required jitter now given until u g k retried retry b r _ y
+            (chain-scheduled (withHandshake c h) jitter now t p))
+
+        pub rest-awaited : (t : Timers) → retried ≡ false → required ≡ true → t ≡ scheduleHandshake (c .timers) (now + jitter)
+            → Makes (withTimers (withHandshake c h) t) store (wakeRest c store required jitter now)
+        rest-awaited t x y p =
+            progress _ store (progress-required (withHandshake c h) store required jitter now given until u g k retried retry b r _ x y
+            (chain-scheduled (withHandshake c h) jitter now t p))
+
+        pub rest-waited : retried ≡ false → required ≡ false → Makes (withHandshake c h) store (wakeRest c store required jitter now)
+        rest-waited x y =
+            progress _ store (progress-waited (withHandshake c h) store required jitter now given until u g k retried retry b r _ store x y refl refl)
 
 -- no current session was discarded, one that is presumed lost, and another one
 module _ (c out : Control) (store left : List ℕ) (expired : Found) (jitter now : ℕ) where
@@ -184,13 +303,19 @@ pub discarded : (c out : Control) (e : Expired) (store mid left : List ℕ) (jit
 unfolding wakeSessions
 discarded c out e store mid left jitter now l o = rw (← l .out, ← l .words) o
 
+-- no session is due
+undiscarded : (c out : Control) (store left : List ℕ) (jitter now : ℕ) → noneExpired (c .sessions) now ≡ true
+    → Makes out left (wakeRest c store false jitter now) → Makes out left (wakeSessions c store jitter now)
+unfolding wakeSessions wakeCurrent caseFound
+undiscarded c out store left jitter now p o = rw (expire-none (c .sessions) now store p) o
+
 -- the scheduled handshake was sent
 pub sent-scheduled : (c out : Control) (t : Timers) (x : Initiated) (now : ℕ) → out ≡ queueing (x .control) (SendHandshakeInitiation (x .«local_index»))
     → x ≡ initiate (withTimers c t) now → t ≡ cancelScheduledHandshake (c .timers) → out ≡ sendScheduled c now
 unfolding sendScheduled
 sent-scheduled c out t x now o e p = rw (← p, ← e) o
 
--- a scheduled handshake is due, none is scheduled, and one is waited for
+-- a scheduled handshake is due; none is scheduled, and no session is due; one is waited for
 module _ (c : Control) (store : List ℕ) (jitter now : ℕ) (flag : Bool) (at : Time) (a : at ≡ scheduledHandshake c) (f : flag ≡ dueBy at now) where
   pub wake-scheduled : (out : Control) → flag ≡ true → out ≡ sendScheduled c now → Makes out store (wake c store jitter now)
   unfolding wake choose
@@ -200,6 +325,10 @@ module _ (c : Control) (store : List ℕ) (jitter now : ℕ) (flag : Bool) (at :
       → Makes out left (wake c store jitter now)
   unfolding wake choose caseTime
   wake-unscheduled out left n m o = rw (← a, ← f, n, m) o
+
+  pub wake-unexpired : (out : Control) (left : List ℕ) (none : Bool) → flag ≡ false → at ≡ Never → none ≡ noneExpired (c .sessions) now → none ≡ true
+      → Makes out left (wakeRest c store false jitter now) → Makes out left (wake c store jitter now)
+  wake-unexpired out left none n m p y o = wake-unscheduled out left n m (undiscarded c out store left jitter now (sym p ∙ y) o)
 
   pub wake-waited : (time : ℕ) → flag ≡ false → at ≡ At time → Makes c store (wake c store jitter now)
   unfolding wake choose caseTime

@@ -13,6 +13,7 @@ use Rattle.sessions.specs.Session.{caseTime, earlier, rekeyAfterTimeOnSend, rej
 use Rattle.sessions.specs.Sessions.{caseFound, currentOf, nextExpiry}
 use Rattle.sessions.specs.declared.session.Time.the-variants.{Never, At}
 use Rattle.sessions.specs.declared.session.Time.{Time}
+use Rattle.sessions.specs.declared.sessions.Found.{Found}
 
 -- when the scheduled handshake is due
 unfoldable pub scheduledHandshake : Control → Time
@@ -37,6 +38,18 @@ attemptDeadline c = rekeyAttemptDeadline (c .timers)
 -- the retry deadline of the initiation that awaits a response
 unfoldable pub handshakeRekeyTimeout : Control → Time
 handshakeRekeyTimeout c = rekeyTimeoutOf (inFlightInitiation (c .handshake))
+
+-- the rekey deadline of a session that was found and has sent data
+unfoldable pub foundOnSend : Found → Time
+foundOnSend found = caseFound found Never rekeyAfterTimeOnSend
+
+-- the time of the last packet, if the session that was found reached the number of messages after which to rekey
+unfoldable pub foundAfterMessages : Found → ℕ → Time
+foundAfterMessages found lastSent = caseFound found Never (λ session. choose (rekeyAfterMessagesReached session) (At lastSent) Never)
+
+-- the rekey deadline of a session that was found and has received data
+unfoldable pub foundOnReceive : Found → Time
+foundOnReceive found = caseFound found Never rejectAfterTimeOnReceive
 
 -- the rekey deadline of a current session that has sent data
 unfoldable pub rekeyOnSend : Control → Time

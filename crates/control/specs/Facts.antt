@@ -14,6 +14,8 @@ use Rattle.parts.specs.declared.ring_buffer.RingBuffer.{RingBuffer}
 use Rattle.sessions.specs.Index.{slotIn}
 use Rattle.sessions.specs.Sessions.{slotAt}
 use Rattle.sessions.specs.declared.session.Session.{Session}
+use Rattle.sessions.specs.declared.sessions.Found.the-variants.{Got}
+use Rattle.sessions.specs.declared.sessions.Found.{Found}
 use Rattle.sessions.specs.declared.sessions.Sessions.{Sessions}
 
 -- a session's time is at most this, its counters are at most LIMIT, and its index is of this slot
@@ -26,6 +28,10 @@ pub record SlotWithin (s : Session) (slot most : ℕ) : Type 0 where
 -- every filled slot
 pub record SessionsWithin (s : Sessions) (most : ℕ) : Type 0 where
   pub slots : (k : ℕ) → k < 8 → slotAt s k .filled ≡ true → SlotWithin (slotAt s k) k most
+
+-- a session that was found was established at this time at most
+pub record FoundWithin (found : Found) (most : ℕ) : Type 0 where
+  pub within : (session : Session) → found ≡ Got session → session .«established_at» ≤ most
 
 -- both times of an event, if it is an established one, are at most this
 pub record EventWithin (event : Event) (most : ℕ) : Type 0 where

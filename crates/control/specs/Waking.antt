@@ -12,6 +12,7 @@ use Rattle.control.specs.declared.control.Control.{Control}
 use Rattle.parts.specs.Handshake.{isInProgress, setExpired, clearCookie}
 use Rattle.parts.specs.Timers.{clearTimers, scheduleHandshake, cancelScheduledHandshake, consumePassiveKeepalive, tickPersistentKeepalive}
 use Rattle.parts.specs.declared.event.Event.the-variants.{SendHandshakeInitiation, SendKeepalive, ConnectionExpired}
+use Rattle.parts.specs.declared.timers.Timers.{Timers}
 use Rattle.sessions.specs.Session.{caseTime, caseRole, dueBy}
 use Rattle.sessions.specs.Sessions.{caseFound, clear, expire, isEmpty}
 use Rattle.sessions.specs.declared.session.Session.{Session}
@@ -48,6 +49,21 @@ persistentKeepalive c required now =
     choose (dueBy (persistentDeadline c) now)
     (queueKeepalive (withTimers c (tickPersistentKeepalive (c .timers) now)) now)
     (choose required (queueKeepalive c now) c)
+
+-- whether a keepalive is due
+unfoldable pub keepaliveDue : Control → ℕ → Bool
+keepaliveDue c now = choose (dueBy (passiveDeadline c) now) true (dueBy (persistentDeadline c) now)
+
+-- the timers after the keepalives that are due
+unfoldable pub keepaliveTimers : Control → ℕ → Timers
+keepaliveTimers c now =
+    choose (dueBy (passiveDeadline c) now)
+    (choose (dueBy (persistentDeadline c) now) (tickPersistentKeepalive (consumePassiveKeepalive (c .timers)) now) (consumePassiveKeepalive (c .timers)))
+    (choose (dueBy (persistentDeadline c) now) (tickPersistentKeepalive (c .timers) now) (c .timers))
+
+-- one keepalive queued for those that are due
+unfoldable pub sendKeepalive : Control → ℕ → Control
+sendKeepalive c now = queueKeepalive (withTimers c (keepaliveTimers c now)) now
 
 -- a keepalive queued if one is due; the passive one's deadline is dropped even if there is no session for it
 unfoldable pub keepalives : Control → ℕ → Control

@@ -8,8 +8,9 @@ ghost use mathlib.Core.Path.{_≡_};
 ghost use lib.Dec.{ltb};
 ghost use Rattle.base.specs.Choice.{choose};
 ghost use Rattle.sessions.specs.Session.{timeLimit};
-ghost use Rattle.control.specs.Deadlines.{scheduledHandshake, handshakeRekeyTimeout, rekeyOnSend, rekeyAfterMessages, rekeyOnReceive, currentPersistentDeadline, commonDeadline, rekeyDeadline, keepaliveDeadline, nextDeadline, unscheduledDeadline, pollTimeout, notBefore};
-ghost use Rattle.control.specs.Facts.{ControlWithin};
+ghost use Rattle.sessions.specs.Sessions.{currentOf};
+ghost use Rattle.control.specs.Deadlines.{scheduledHandshake, handshakeRekeyTimeout, foundOnSend, foundAfterMessages, foundOnReceive, currentPersistentDeadline, commonDeadline, rekeyDeadline, keepaliveDeadline, nextDeadline, unscheduledDeadline, pollTimeout, notBefore};
+ghost use Rattle.control.specs.Facts.{FoundWithin, ControlWithin};
 
 // A deadline, or the last update where it has elapsed before that.
 fn not_before(deadline: Time, last_update: u64) -> Time
@@ -31,6 +32,41 @@ fn greater(a: u64, b: u64) -> u64
     a
 }
 
+// The rekey deadline of a session that was found and has sent data.
+pub(crate) fn rekey_after_time_on_send(found: Found) -> Time
+    requires { ⌜ FoundWithin found timeLimit ⌝ }
+    ensures { λ r. ⌜ r ≡ foundOnSend found ⌝ }
+{
+    let Found::Got(session) = found else {
+        return Time::Never;
+    };
+    session.rekey_after_time_on_send()
+}
+
+// The time of the last packet, if the session that was found reached `REKEY_AFTER_MESSAGES` sent messages with it.
+pub(crate) fn rekey_after_messages(found: Found, last_packet_sent: u64) -> Time
+    ensures { λ r. ⌜ r ≡ foundAfterMessages found «last_packet_sent» ⌝ }
+{
+    let Found::Got(session) = found else {
+        return Time::Never;
+    };
+    if session.rekey_after_messages_reached() {
+        return Time::At(last_packet_sent);
+    }
+    Time::Never
+}
+
+// The rekey deadline of a session that was found and has received data.
+pub(crate) fn reject_after_time_on_receive(found: Found) -> Time
+    requires { ⌜ FoundWithin found timeLimit ⌝ }
+    ensures { λ r. ⌜ r ≡ foundOnReceive found ⌝ }
+{
+    let Found::Got(session) = found else {
+        return Time::Never;
+    };
+    session.reject_after_time_on_receive()
+}
+
 impl Control {
     // When the scheduled handshake is due.
     pub(crate) fn scheduled_handshake(self) -> Time
@@ -48,47 +84,12 @@ impl Control {
         rekey_timeout(self.handshake.in_flight_initiation())
     }
 
-    // The rekey deadline of a current session that has sent data.
-    pub(crate) fn rekey_after_time_on_send(self) -> Time
-        requires { ⌜ ControlWithin self timeLimit ⌝ }
-        ensures { λ r. ⌜ r ≡ rekeyOnSend self ⌝ }
-    {
-        let Found::Got(session) = self.sessions.current() else {
-            return Time::Never;
-        };
-        session.rekey_after_time_on_send()
-    }
-
-    // When the current session reached `REKEY_AFTER_MESSAGES` sent messages.
-    pub(crate) fn rekey_after_messages(self) -> Time
-        ensures { λ r. ⌜ r ≡ rekeyAfterMessages self ⌝ }
-    {
-        let Found::Got(session) = self.sessions.current() else {
-            return Time::Never;
-        };
-        if session.rekey_after_messages_reached() {
-            return Time::At(self.timers.time_last_packet_sent);
-        }
-        Time::Never
-    }
-
-    // The rekey deadline of a current session that has received data.
-    pub(crate) fn reject_after_time_on_receive(self) -> Time
-        requires { ⌜ ControlWithin self timeLimit ⌝ }
-        ensures { λ r. ⌜ r ≡ rekeyOnReceive self ⌝ }
-    {
-        let Found::Got(session) = self.sessions.current() else {
-            return Time::Never;
-        };
-        session.reject_after_time_on_receive()
-    }
-
     // The persistent-keepalive deadline while a session is current.
-    pub(crate) fn current_persistent_keepalive(self) -> Time
-        requires { ⌜ ControlWithin self timeLimit ⌝ }
+    fn current_persistent_keepalive(self, current: Found) -> Time
+        requires { ⌜ (ControlWithin self timeLimit) × (current ≡ currentOf (self .sessions)) ⌝ }
         ensures { λ r. ⌜ r ≡ currentPersistentDeadline self ⌝ }
     {
-        let Found::Got(_) = self.sessions.current() else {
+        let Found::Got(_) = current else {
             return Time::Never;
         };
         self.timers.next_persistent_keepalive()
@@ -109,27 +110,30 @@ impl Control {
     }
 
     // The deadlines at which a handshake is required while none is in progress.
-    pub(crate) fn rekey_deadline(self) -> Time
-        requires { ⌜ ControlWithin self timeLimit ⌝ }
+    fn rekey_deadline(self, current: Found) -> Time
+        requires { ⌜ (ControlWithin self timeLimit) × (current ≡ currentOf (self .sessions)) ⌝ }
         ensures { λ r. ⌜ r ≡ rekeyDeadline self ⌝ }
     {
         earlier(
-            earlier(self.rekey_after_time_on_send(), self.rekey_after_messages()),
             earlier(
-                self.reject_after_time_on_receive(),
+                rekey_after_time_on_send(current),
+                rekey_after_messages(current, self.timers.time_last_packet_sent),
+            ),
+            earlier(
+                reject_after_time_on_receive(current),
                 self.timers.rekey_after_time_without_response(),
             ),
         )
     }
 
     // The deadlines of keepalives.
-    pub(crate) fn keepalive_deadline(self) -> Time
-        requires { ⌜ ControlWithin self timeLimit ⌝ }
+    fn keepalive_deadline(self, current: Found) -> Time
+        requires { ⌜ (ControlWithin self timeLimit) × (current ≡ currentOf (self .sessions)) ⌝ }
         ensures { λ r. ⌜ r ≡ keepaliveDeadline self ⌝ }
     {
         earlier(
             self.timers.keepalive_after_time_without_send(),
-            self.current_persistent_keepalive(),
+            self.current_persistent_keepalive(current),
         )
     }
 
@@ -141,10 +145,16 @@ impl Control {
         let common = self.common_deadline();
         let retry = self.handshake_rekey_timeout();
         match retry {
-            Time::Never => earlier(
-                common,
-                earlier(self.rekey_deadline(), self.keepalive_deadline()),
-            ),
+            Time::Never => {
+                let current = self.sessions.current();
+                earlier(
+                    common,
+                    earlier(
+                        self.rekey_deadline(current),
+                        self.keepalive_deadline(current),
+                    ),
+                )
+            }
             Time::At(at) => earlier(
                 common,
                 earlier(Time::At(at), self.timers.rekey_attempt_deadline()),

@@ -9,9 +9,8 @@ use sessions::session::Reserved;
 use sessions::session::Session;
 use sessions::sessions::Found;
 ghost use mathlib.Core.Path.{_≡_};
-ghost use Rattle.sessions.specs.Batch.{receive};
 ghost use Rattle.parts.specs.RingBuffer.{RingWithin};
-ghost use Rattle.control.specs.Transport.{beginEncapsulate, finishEncapsulate, grant, send, encryptKeepalive, confirmFirstSession, selecting, accept, batched, committed, committing, Commits, commitDecapsulate, beginDecapsulate};
+ghost use Rattle.control.specs.Transport.{grant, send, encryptKeepalive, confirmFirstSession, committed, Commits, commitDecapsulate, beginDecapsulate};
 
 // A keepalive: its peer index and counter, or none for want of a session.
 pub enum Datagram {
@@ -26,21 +25,16 @@ pub struct Encrypted {
 }
 
 impl Control {
-    // Ticks both send timers and puts the session back.
-    fn begin_encapsulate(mut self, session: Session, now: u64) -> Control
-        ensures { λ r. ⌜ r ≡ beginEncapsulate self session now ⌝ }
+    // Grants consecutive counters of a session to data messages. Where too few are left the session is still marked and the timers
+    // are ticked.
+    fn grant(mut self, session: Session, count: u64, now: u64) -> Out
+        ensures { λ r. ⌜ r ≡ grant self session count now ⌝ }
     {
         self.timers = self.timers.tick_last_packet_sent(now);
         self.timers = self.timers.tick_last_data_packet_sent(now);
-        self.sessions = self.sessions.put(session);
-        self
-    }
-
-    // Reserves the counters of data messages.
-    fn finish(mut self, session: Session, count: u64) -> Out
-        ensures { λ r. ⌜ r ≡ finishEncapsulate self session count ⌝ }
-    {
-        let Reserved::First(first, counted) = session.reserve_counters(count) else {
+        let prepared = session.prepare_packet_data();
+        let Reserved::First(first, counted) = prepared.reserve_counters(count) else {
+            self.sessions = self.sessions.put(prepared);
             return Out {
                 control: self,
                 answer: Answer::No(12),
@@ -54,15 +48,6 @@ impl Control {
             first,
             length: count,
         }))
-    }
-
-    // Grants consecutive counters of a session to data messages.
-    fn grant(mut self, session: Session, count: u64, now: u64) -> Out
-        ensures { λ r. ⌜ r ≡ grant self session count now ⌝ }
-    {
-        let prepared = session.prepare_packet_data();
-        self = self.begin_encapsulate(prepared, now);
-        self.finish(prepared, count)
     }
 
     // Grants consecutive counters of the current sending session to data messages.
@@ -115,43 +100,7 @@ impl Control {
         self
     }
 
-    // Selects the session of an accepted message and confirms the first one.
-    fn select(mut self, index: u32, accepted_at: u64, now: u64) -> Control
-        requires { ⌜ RingWithin (self .events) ⌝ }
-        ensures { λ r. ⌜ r ≡ selecting self index «accepted_at» now ⌝ }
-    {
-        self.sessions = self.sessions.set_current(index);
-        self.timers = self.timers.tick_last_packet_received(now);
-        self.confirm_first_session(accepted_at, now)
-    }
-
-    // Notes that messages of a session were accepted.
-    fn accept(mut self, index: u32, accepted_at: u64, data: bool, now: u64) -> Control
-        requires { ⌜ RingWithin (self .events) ⌝ }
-        ensures { λ r. ⌜ r ≡ accept self index «accepted_at» «data» now ⌝ }
-    {
-        self = self.select(index, accepted_at, now);
-        if data {
-            self.timers = self.timers.tick_last_data_packet_received(now);
-            return self;
-        }
-        self
-    }
-
-    // The control after a batch that was not turned down.
-    fn batched(mut self, received: Received, index: u32, now: u64) -> Control
-        requires { ⌜ RingWithin (self .events) ⌝ }
-        ensures { λ r. ⌜ r ≡ batched self received index now ⌝ }
-    {
-        let after = received.sessions;
-        self.sessions = after;
-        if received.accepted {
-            return self.accept(index, received.established_at, received.data, now);
-        }
-        self
-    }
-
-    // What a batch answers once the sessions have judged it.
+    // What a batch answers once the sessions have judged it: an accepted message selects its session and confirms the first one.
     fn committed(mut self, received: Received, index: u32, now: u64) -> Out
         requires { ⌜ RingWithin (self .events) ⌝ }
         ensures { λ r. ⌜ r ≡ committed self received index now ⌝ }
@@ -159,27 +108,20 @@ impl Control {
         if received.number != 0 {
             return self.refuse(received.number);
         }
-        self = self.batched(received, index, now);
+        let after = received.sessions;
+        self.sessions = after;
+        if received.accepted {
+            self.sessions = self.sessions.set_current(index);
+            self.timers = self.timers.tick_accepted(received.data, now);
+            if self.established {
+                return self.done(Answer::Done);
+            }
+            self.events = self.events
+                .push_back(Event::Established(received.established_at, now));
+            self.established = true;
+            return self.done(Answer::Done);
+        }
         self.done(Answer::Done)
-    }
-
-    // Has the sessions judge a batch.
-    fn commit(
-        self,
-        store: &mut [u64],
-        index: u32,
-        id: u64,
-        now: u64,
-        counters: &[u64],
-        kinds: &[u8],
-        verdicts: &mut [u8],
-    ) -> Out
-        requires { ⌜ RingWithin (self .events) ⌝ }
-        ensures { λ r. ⌜ Commits (committing self (receive (self .sessions) (store .entry .now) index id now (counters .entry .now) (kinds .entry .now) (verdicts .entry .now)) index now) r (store .exit .now) (verdicts .exit .now) ⌝ }
-    {
-        let received = self.sessions
-            .receive(store, index, id, now, counters, kinds, verdicts);
-        self.committed(received, index, now)
     }
 
     // Accepts the messages of a batch after checking its session and their replay counters.
@@ -199,7 +141,9 @@ impl Control {
         if self.is_expired() {
             return self.refuse(11);
         }
-        self.commit(store, index, id, now, counters, kinds, verdicts)
+        let received = self.sessions
+            .receive(store, index, id, now, counters, kinds, verdicts);
+        self.committed(received, index, now)
     }
 
     // The early look at a data message, which changes nothing.

@@ -2,8 +2,12 @@
 use crate::answer::Answer;
 use crate::control::Control;
 use crate::control::Out;
-use crate::transport::Datagram;
+use crate::deadlines::reject_after_time_on_receive;
+use crate::deadlines::rekey_after_messages;
+use crate::deadlines::rekey_after_time_on_send;
 use parts::event::Event;
+use parts::timers::Timers;
+use sessions::session::Reserved;
 use sessions::session::Role;
 use sessions::session::Session;
 use sessions::session::Time;
@@ -15,7 +19,7 @@ ghost use Rattle.sessions.specs.Session.{timeLimit};
 ghost use Rattle.sessions.specs.Store.{Leaves};
 ghost use Rattle.parts.specs.RingBuffer.{RingWithin};
 ghost use Rattle.parts.specs.Timers.{maxJitter};
-ghost use Rattle.control.specs.Waking.{clearAll, expireControl, scheduling, queueKeepalive, persistentKeepalive, keepalives, rekeyDue, wakeIdle, wakeInProgress, expireCookie, wakeLater, wakeRest, isLost, isReplaced, wakeCurrent, wakeSessions, sendScheduled, wake, handleTimeout};
+ghost use Rattle.control.specs.Waking.{clearAll, expireControl, queueKeepalive, keepaliveDue, keepaliveTimers, sendKeepalive, rekeyDue, wakeRest, isLost, isReplaced, wakeCurrent, wakeSessions, sendScheduled, wake, handleTimeout};
 ghost use Rattle.control.specs.Facts.{ControlWithin};
 
 impl Control {
@@ -38,57 +42,63 @@ impl Control {
         self.push_back(Event::ConnectionExpired)
     }
 
-    // Schedules a handshake after the jitter.
-    fn schedule_handshake(mut self, jitter: u64, now: u64) -> Control
-        requires { ⌜ (now ≤ timeLimit) × (jitter ≤ maxJitter) ⌝ }
-        ensures { λ r. ⌜ r ≡ scheduling self jitter now ⌝ }
-    {
-        self.timers = self.timers.schedule_handshake(now + jitter);
-        self
-    }
-
     // Queues a keepalive. None starts a handshake or waits for a session.
-    fn queue_keepalive(self, now: u64) -> Control
+    fn queue_keepalive(mut self, now: u64) -> Control
         requires { ⌜ RingWithin (self .events) ⌝ }
         ensures { λ r. ⌜ r ≡ queueKeepalive self now ⌝ }
     {
-        let encrypted = self.encrypt_keepalive(now);
-        let keepalive = encrypted.keepalive;
-        match keepalive {
-            Datagram::Skipped => return encrypted.control,
-            Datagram::Sent(peer, counter) => {
-                return encrypted
-                    .control
-                    .push_back(Event::SendKeepalive(peer, counter));
-            }
-        }
-    }
-
-    // Queues the persistent keepalive that is due, or the one that is required anyway.
-    fn persistent_keepalive(mut self, required: bool, now: u64) -> Control
-        requires { ⌜ ControlWithin self timeLimit ⌝ }
-        ensures { λ r. ⌜ r ≡ persistentKeepalive self required now ⌝ }
-    {
-        if due_by(self.timers.next_persistent_keepalive(), now) {
-            self.timers = self.timers.tick_persistent_keepalive(now);
-            return self.queue_keepalive(now);
-        }
-        if required {
-            return self.queue_keepalive(now);
-        }
+        let Found::Got(session) = self.sessions.sending_session(now) else {
+            return self;
+        };
+        let Reserved::First(counter, counted) = session.reserve_counters(1) else {
+            return self;
+        };
+        self.sessions = self.sessions.put(counted);
+        self.timers = self.timers.tick_last_packet_sent(now);
+        self.events = self.events
+            .push_back(Event::SendKeepalive(counted.sending_index, counter));
         self
     }
 
-    // Queues a keepalive if one is due. The passive one's deadline is dropped even if there is no session for it.
-    fn keepalives(mut self, now: u64) -> Control
+    // Whether a keepalive is due.
+    fn keepalive_due(self, now: u64) -> bool
         requires { ⌜ ControlWithin self timeLimit ⌝ }
-        ensures { λ r. ⌜ r ≡ keepalives self now ⌝ }
+        ensures { λ r. ⌜ r ≡ keepaliveDue self now ⌝ }
     {
         if due_by(self.timers.keepalive_after_time_without_send(), now) {
-            self.timers = self.timers.consume_passive_keepalive();
-            return self.persistent_keepalive(true, now);
+            return true;
         }
-        self.persistent_keepalive(false, now)
+        due_by(self.timers.next_persistent_keepalive(), now)
+    }
+
+    // The timers after the keepalives that are due.
+    fn keepalive_timers(self, now: u64) -> Timers
+        requires { ⌜ ControlWithin self timeLimit ⌝ }
+        ensures { λ r. ⌜ r ≡ keepaliveTimers self now ⌝ }
+    {
+        let timers = self.timers;
+        let persistent = due_by(timers.next_persistent_keepalive(), now);
+        if due_by(timers.keepalive_after_time_without_send(), now) {
+            let consumed = timers.consume_passive_keepalive();
+            if persistent {
+                return consumed.tick_persistent_keepalive(now);
+            }
+            return consumed;
+        }
+        if persistent {
+            return timers.tick_persistent_keepalive(now);
+        }
+        timers
+    }
+
+    // Queues one keepalive for those that are due. The passive one's deadline is dropped even if there is no session for it.
+    fn send_keepalive(mut self, now: u64) -> Control
+        requires { ⌜ ControlWithin self timeLimit ⌝ }
+        ensures { λ r. ⌜ r ≡ sendKeepalive self now ⌝ }
+    {
+        let timers = self.keepalive_timers(now);
+        self.timers = timers;
+        self.queue_keepalive(now)
     }
 
     // Whether a handshake is required while none is in progress.
@@ -96,74 +106,20 @@ impl Control {
         requires { ⌜ ControlWithin self timeLimit ⌝ }
         ensures { λ r. ⌜ r ≡ rekeyDue self now ⌝ }
     {
-        if due_by(self.rekey_after_time_on_send(), now) {
+        let current = self.sessions.current();
+        if due_by(rekey_after_time_on_send(current), now) {
             return true;
         }
-        if due_by(self.rekey_after_messages(), now) {
+        if due_by(
+            rekey_after_messages(current, self.timers.time_last_packet_sent),
+            now,
+        ) {
             return true;
         }
-        if due_by(self.reject_after_time_on_receive(), now) {
+        if due_by(reject_after_time_on_receive(current), now) {
             return true;
         }
         due_by(self.timers.rekey_after_time_without_response(), now)
-    }
-
-    // The waking's rest while no initiation awaits a response.
-    fn wake_idle(self, required: bool, jitter: u64, now: u64) -> Control
-        requires { ⌜ (ControlWithin self timeLimit) × (now ≤ timeLimit) × (jitter ≤ maxJitter) ⌝ }
-        ensures { λ r. ⌜ r ≡ wakeIdle self required jitter now ⌝ }
-    {
-        if required {
-            return self.schedule_handshake(jitter, now);
-        }
-        if self.rekey_due(now) {
-            return self.schedule_handshake(jitter, now);
-        }
-        self.keepalives(now)
-    }
-
-    // The waking's rest while an initiation awaits a response.
-    fn wake_in_progress(self, store: &mut [u64], required: bool, jitter: u64, now: u64) -> Control
-        requires { ⌜ (ControlWithin self timeLimit) × (now ≤ timeLimit) × (jitter ≤ maxJitter) ⌝ }
-        ensures { λ r. ⌜ Leaves r (wakeInProgress self (store .entry .now) required jitter now .control) (store .exit .now) (wakeInProgress self (store .entry .now) required jitter now .store) ⌝ }
-    {
-        if due_by(self.timers.rekey_attempt_deadline(), now) {
-            return self.expire(store, now);
-        }
-        if due_by(self.handshake_rekey_timeout(), now) {
-            return self.schedule_handshake(jitter, now);
-        }
-        if required {
-            return self.schedule_handshake(jitter, now);
-        }
-        self
-    }
-
-    // Drops the cookie if it has expired.
-    fn expire_cookie(mut self, now: u64) -> Control
-        requires { ⌜ ControlWithin self timeLimit ⌝ }
-        ensures { λ r. ⌜ r ≡ expireCookie self now ⌝ }
-    {
-        if due_by(self.handshake.cookie_expiration(), now) {
-            self.handshake = self.handshake.clear_cookie();
-            return self;
-        }
-        self
-    }
-
-    // The waking's rest once a cookie that is due is dropped.
-    fn wake_later(self, store: &mut [u64], required: bool, jitter: u64, now: u64) -> Control
-        requires { ⌜ (ControlWithin self timeLimit) × (now ≤ timeLimit) × (jitter ≤ maxJitter) ⌝ }
-        ensures { λ r. ⌜ Leaves r (wakeLater self (store .entry .now) required jitter now .control) (store .exit .now) (wakeLater self (store .entry .now) required jitter now .store) ⌝ }
-    {
-        if due_by(self.timers.reject_after_time(), now) {
-            return self.expire(store, now);
-        }
-        let retry = self.handshake_rekey_timeout();
-        match retry {
-            Time::Never => return self.wake_idle(required, jitter, now),
-            Time::At(_) => return self.wake_in_progress(store, required, jitter, now),
-        }
     }
 
     // The waking's rest once the sessions that are due are discarded.
@@ -171,8 +127,41 @@ impl Control {
         requires { ⌜ (ControlWithin self timeLimit) × (now ≤ timeLimit) × (jitter ≤ maxJitter) ⌝ }
         ensures { λ r. ⌜ Leaves r (wakeRest self (store .entry .now) required jitter now .control) (store .exit .now) (wakeRest self (store .entry .now) required jitter now .store) ⌝ }
     {
-        self = self.expire_cookie(now);
-        self.wake_later(store, required, jitter, now)
+        self.handshake = self.handshake.expire_cookie(now);
+        if due_by(self.timers.reject_after_time(), now) {
+            return self.expire(store, now);
+        }
+        let retry = self.handshake_rekey_timeout();
+        match retry {
+            Time::Never => {
+                if required {
+                    self.timers = self.timers.schedule_handshake(now + jitter);
+                    return self;
+                }
+                if self.rekey_due(now) {
+                    self.timers = self.timers.schedule_handshake(now + jitter);
+                    return self;
+                }
+                if self.keepalive_due(now) {
+                    return self.send_keepalive(now);
+                }
+                return self;
+            }
+            Time::At(_) => {
+                if due_by(self.timers.rekey_attempt_deadline(), now) {
+                    return self.expire(store, now);
+                }
+                if due_by(retry, now) {
+                    self.timers = self.timers.schedule_handshake(now + jitter);
+                    return self;
+                }
+                if required {
+                    self.timers = self.timers.schedule_handshake(now + jitter);
+                    return self;
+                }
+                return self;
+            }
+        }
     }
 
     // Whether an expired current session is presumed lost: it sent data and no newer session is stored.
@@ -251,7 +240,12 @@ impl Control {
             return self.send_scheduled(now);
         }
         match scheduled {
-            Time::Never => return self.wake_sessions(store, jitter, now),
+            Time::Never => {
+                if self.sessions.none_expired(now) {
+                    return self.wake_rest(store, false, jitter, now);
+                }
+                return self.wake_sessions(store, jitter, now);
+            }
             Time::At(_) => return self,
         }
     }

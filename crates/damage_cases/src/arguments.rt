@@ -1,219 +1,154 @@
 // The cases of numbers 1 and 2: arguments out of range.
-use crate::request::ANSWERED;
-use crate::request::CALLS;
-use crate::request::COOKIE;
-use crate::request::INITIATION;
+use crate::damage::no_damage;
+use crate::every::MESSAGES;
+use crate::every::OF_OUTCOME;
+use crate::every::STORED;
+use crate::every::TIMED;
+use crate::every::every;
+use crate::every::one;
+use crate::judge::ANSWERED;
+use crate::request::MOST;
 use crate::request::RECEIVE;
-use crate::request::RESPONSE;
-use crate::request::Request;
 use crate::request::SEND;
+use crate::request::START;
 use crate::request::WAKING;
 use crate::request::good;
-use crate::request::has_time;
-use crate::request::right;
 use crate::sound::GREATEST;
 use crate::tally::Tally;
-use crate::tally::case_of;
 use crate::tally::no_cases;
 use tunnel::tunnel::TIME_LIMIT;
-use tunnel::tunnel::Tunnel;
 
-// A call with so many words of the store.
-fn store_case(tunnel: Tunnel, call: u64, words: usize) -> Tally {
-    let request = good(call, GREATEST);
-    case_of(right(tunnel, Request { words, ..request }, 2))
+// Every call that has a time, at a time above the limit.
+fn time_cases(now: u64) -> Tally {
+    every(no_damage(), good(START, now), TIMED, 1)
 }
 
-// Every call that takes the store, with stores of wrong length.
-fn stores(tunnel: Tunnel) -> Tally {
-    let mut tally = no_cases();
-    let mut call = RECEIVE;
-    while call < CALLS {
-        tally = tally
-            .plus(store_case(tunnel, call, 0))
-            .plus(store_case(tunnel, call, 1023))
-            .plus(store_case(tunnel, call, 1025));
-        call = call + 1;
-    }
-    tally
+// Every call that takes the store, with a store of wrong length.
+fn store_cases(words: usize) -> Tally {
+    every(
+        no_damage(),
+        good(START, GREATEST).with_words(words),
+        STORED,
+        2,
+    )
 }
 
 // A batch with lists of these lengths.
-fn lists_case(
-    tunnel: Tunnel,
-    counters: usize,
-    kinds: usize,
-    verdicts: usize,
-    expected: u64,
-) -> Tally {
-    let request = good(RECEIVE, GREATEST);
-    case_of(right(
-        tunnel,
-        Request {
-            counters,
-            kinds,
-            verdicts,
-            ..request
-        },
+fn lists_case(counters: usize, kinds: usize, verdicts: usize, expected: u64) -> Tally {
+    one(
+        no_damage(),
+        good(RECEIVE, GREATEST).with_lists(counters, kinds, verdicts),
         expected,
-    ))
+    )
 }
 
 // Lists of which one is longer or shorter than the others.
-fn unequal_lists(tunnel: Tunnel, some: usize, other: usize) -> Tally {
-    lists_case(tunnel, other, some, some, 2)
-        .plus(lists_case(tunnel, some, other, some, 2))
-        .plus(lists_case(tunnel, some, some, other, 2))
+fn unequal_lists(some: usize, other: usize) -> Tally {
+    lists_case(other, some, some, 2)
+        .plus(lists_case(some, other, some, 2))
+        .plus(lists_case(some, some, other, 2))
 }
 
 // Lists of unequal length.
-fn all_unequal_lists(tunnel: Tunnel) -> Tally {
-    unequal_lists(tunnel, 3, 2)
-        .plus(unequal_lists(tunnel, 3, 4))
-        .plus(unequal_lists(tunnel, 3, 0))
-        .plus(unequal_lists(tunnel, 0, 1))
-        .plus(unequal_lists(tunnel, 1024, 1023))
+fn all_unequal_lists() -> Tally {
+    unequal_lists(3, 2)
+        .plus(unequal_lists(3, 4))
+        .plus(unequal_lists(3, 0))
+        .plus(unequal_lists(0, 1))
+        .plus(unequal_lists(1024, 1023))
 }
 
 // Lists of more than 1,024, and the longest and the shortest that are taken.
-fn long_lists(tunnel: Tunnel) -> Tally {
-    unequal_lists(tunnel, 1024, 1025)
-        .plus(lists_case(tunnel, 1025, 1025, 1025, 2))
-        .plus(lists_case(tunnel, 1024, 1024, 1024, ANSWERED))
-        .plus(lists_case(tunnel, 0, 0, 0, ANSWERED))
+fn long_lists() -> Tally {
+    unequal_lists(1024, 1025)
+        .plus(lists_case(1025, 1025, 1025, 2))
+        .plus(lists_case(1024, 1024, 1024, ANSWERED))
+        .plus(lists_case(0, 0, 0, ANSWERED))
 }
 
 // A batch of so many messages with a kind at a place.
-fn kind_case(tunnel: Tunnel, length: usize, place: usize, kind: u8, expected: u64) -> Tally {
-    let request = good(RECEIVE, GREATEST);
-    case_of(right(
-        tunnel,
-        Request {
-            kind,
-            place,
-            counters: length,
-            kinds: length,
-            verdicts: length,
-            ..request
-        },
-        expected,
-    ))
+fn kind_case(length: usize, place: usize, kind: u8, expected: u64) -> Tally {
+    let mut request = good(RECEIVE, GREATEST).with_lists(length, length, length);
+    request.kind = kind;
+    request.place = place;
+    one(no_damage(), request, expected)
 }
 
 // A kind at the first, a middle and the last place of a short batch and of the longest.
-fn kind_places(tunnel: Tunnel, kind: u8, expected: u64) -> Tally {
-    kind_case(tunnel, 3, 0, kind, expected)
-        .plus(kind_case(tunnel, 3, 1, kind, expected))
-        .plus(kind_case(tunnel, 3, 2, kind, expected))
-        .plus(kind_case(tunnel, 1024, 0, kind, expected))
-        .plus(kind_case(tunnel, 1024, 511, kind, expected))
-        .plus(kind_case(tunnel, 1024, 1023, kind, expected))
+fn kind_places(kind: u8, expected: u64) -> Tally {
+    kind_case(3, 0, kind, expected)
+        .plus(kind_case(3, 1, kind, expected))
+        .plus(kind_case(3, 2, kind, expected))
+        .plus(kind_case(1024, 0, kind, expected))
+        .plus(kind_case(1024, 511, kind, expected))
+        .plus(kind_case(1024, 1023, kind, expected))
 }
 
 // Kinds that are not named, those that are, and one after the end of the list.
-fn kinds(tunnel: Tunnel) -> Tally {
-    kind_places(tunnel, 3, 2)
-        .plus(kind_places(tunnel, 255, 2))
-        .plus(kind_places(tunnel, 1, ANSWERED))
-        .plus(kind_places(tunnel, 2, ANSWERED))
-        .plus(kind_case(tunnel, 3, 3, 3, ANSWERED))
-}
-
-// What an outcome gives: its own number where the call names it, and otherwise 2.
-fn outcome_gives(call: u64, outcome: u64) -> u64 {
-    if outcome == 0 {
-        return ANSWERED;
-    }
-    if outcome == 7 {
-        return 7;
-    }
-    if call == INITIATION {
-        return match outcome {
-            3 => 3,
-            4 => 4,
-            5 => 5,
-            _ => 2,
-        };
-    }
-    2
-}
-
-// A handshake message with an outcome.
-fn outcome_case(tunnel: Tunnel, call: u64, outcome: u64) -> Tally {
-    let request = good(call, GREATEST);
-    let expected = outcome_gives(call, outcome);
-    case_of(right(tunnel, Request { outcome, ..request }, expected))
+fn kinds() -> Tally {
+    kind_places(3, 2)
+        .plus(kind_places(255, 2))
+        .plus(kind_places(1, ANSWERED))
+        .plus(kind_places(2, ANSWERED))
+        .plus(kind_case(3, 3, 3, ANSWERED))
 }
 
 // The three handshake messages with an outcome.
-fn three_messages(tunnel: Tunnel, outcome: u64) -> Tally {
-    outcome_case(tunnel, COOKIE, outcome)
-        .plus(outcome_case(tunnel, INITIATION, outcome))
-        .plus(outcome_case(tunnel, RESPONSE, outcome))
+fn outcome_cases(outcome: u64) -> Tally {
+    every(
+        no_damage(),
+        good(START, GREATEST).with_outcome(outcome),
+        MESSAGES,
+        OF_OUTCOME,
+    )
 }
 
 // The three handshake messages with outcomes from 0 to 16 and with great ones.
-fn outcomes(tunnel: Tunnel) -> Tally {
-    let mut tally = three_messages(tunnel, 256).plus(three_messages(tunnel, 18446744073709551615));
+fn outcomes() -> Tally {
+    let mut tally = outcome_cases(256).plus(outcome_cases(MOST));
     let mut outcome = 0;
     while outcome <= 16 {
-        tally = tally.plus(three_messages(tunnel, outcome));
+        tally = tally.plus(outcome_cases(outcome));
         outcome = outcome + 1;
     }
     tally
 }
 
 // A send of so many counters.
-fn count_case(tunnel: Tunnel, count: u64, expected: u64) -> Tally {
-    let request = good(SEND, GREATEST);
-    case_of(right(tunnel, Request { count, ..request }, expected))
+fn count_case(count: u64, expected: u64) -> Tally {
+    let mut request = good(SEND, GREATEST);
+    request.count = count;
+    one(no_damage(), request, expected)
 }
 
 // A waking with a jitter.
-fn jitter_case(tunnel: Tunnel, jitter: u64, expected: u64) -> Tally {
-    let request = good(WAKING, GREATEST);
-    case_of(right(tunnel, Request { jitter, ..request }, expected))
+fn jitter_case(jitter: u64, expected: u64) -> Tally {
+    let mut request = good(WAKING, GREATEST);
+    request.jitter = jitter;
+    one(no_damage(), request, expected)
 }
 
 // The counts and jitters at the edges.
-fn numbers(tunnel: Tunnel) -> Tally {
-    count_case(tunnel, 0, 2)
-        .plus(count_case(tunnel, 1, ANSWERED))
-        .plus(jitter_case(tunnel, 333_000_000, ANSWERED))
-        .plus(jitter_case(tunnel, 333_000_001, 2))
-        .plus(jitter_case(tunnel, 18446744073709551615, 2))
-}
-
-// A call at a time above the limit.
-fn time_case(tunnel: Tunnel, call: u64) -> Tally {
-    if has_time(call) {
-        return case_of(right(tunnel, good(call, TIME_LIMIT + 1), 1)).plus(case_of(right(
-            tunnel,
-            good(call, 18446744073709551615),
-            1,
-        )));
-    }
-    no_cases()
-}
-
-// Every call that has a time, above the limit.
-fn times(tunnel: Tunnel) -> Tally {
-    let mut tally = no_cases();
-    let mut call = 0;
-    while call < CALLS {
-        tally = tally.plus(time_case(tunnel, call));
-        call = call + 1;
-    }
-    tally
+fn numbers() -> Tally {
+    count_case(0, 2)
+        .plus(count_case(1, ANSWERED))
+        .plus(jitter_case(333_000_000, ANSWERED))
+        .plus(jitter_case(333_000_001, 2))
+        .plus(jitter_case(MOST, 2))
 }
 
 // Writes the groups of numbers 1 and 2.
-pub fn argument_groups(tunnel: Tunnel) {
-    times(tunnel).print(b"1 time");
-    stores(tunnel).print(b"2 store length");
-    all_unequal_lists(tunnel).print(b"2 unequal lists");
-    long_lists(tunnel).print(b"2 long lists");
-    kinds(tunnel).print(b"2 kinds");
-    outcomes(tunnel).print(b"2 outcomes");
-    numbers(tunnel).print(b"2 count and jitter");
+pub fn argument_groups() {
+    time_cases(TIME_LIMIT + 1)
+        .plus(time_cases(MOST))
+        .print(b"1 time");
+    store_cases(0)
+        .plus(store_cases(1023))
+        .plus(store_cases(1025))
+        .print(b"2 store length");
+    all_unequal_lists().print(b"2 unequal lists");
+    long_lists().print(b"2 long lists");
+    kinds().print(b"2 kinds");
+    outcomes().print(b"2 outcomes");
+    numbers().print(b"2 count and jitter");
 }

@@ -1,5 +1,12 @@
-// Fields of a tunnel set to a value, and the values at the edge of what number 14 lets through and just beyond it.
-use crate::sound::GREATEST;
+// The tunnels of the cases: the sound one with a field set to a value, and expired ones.
+use crate::fields::GREATEST_TIME;
+use crate::fields::LAST_UPDATE;
+use crate::fields::RING;
+use crate::fields::place_of;
+use crate::fields::slot_of;
+use crate::sound::expired;
+use crate::sound::sound;
+use crate::unlooked::changed;
 use control::control::Control;
 use parts::event::Event;
 use parts::handshake::Cookies;
@@ -8,109 +15,91 @@ use parts::handshake::HandshakeState;
 use parts::ring_buffer::RingBuffer;
 use parts::ring_buffer::Slot;
 use parts::timers::Interval;
-use parts::timers::MAX_JITTER;
 use parts::timers::Timers;
-use sessions::session::REJECT_AFTER_MESSAGES;
 use sessions::session::Session;
 use sessions::session::Time;
-use tunnel::tunnel::TIME_LIMIT;
+use sessions::sessions::Sessions;
 use tunnel::tunnel::Tunnel;
 
-// The fields outside slots and events, in the order of `with_value`: the greatest time; the seven timers and `last_update`; the
-// times that may be missing; the scheduled handshake; the keepalive below and above its range; the ring's head and length.
-pub const GREATEST_TIME: u64 = 0;
+// A tunnel of the cases, by a field's number and its value.
+pub struct Damage {
+    pub field: u64,
+    pub value: u64,
+}
 
-pub const TIMERS: u64 = 1;
+// Past the fields' numbers: the sound tunnel, the sound tunnel with an expired handshake, and one that expired by a waking.
+const SOUND: u64 = 96;
 
-pub const PRESENT_TIMES: u64 = 9;
+const ENDED: u64 = 97;
 
-pub const SCHEDULED: u64 = 15;
+const WOKEN: u64 = 98;
 
-pub const KEEPALIVE: u64 = 16;
-
-pub const RING: u64 = 18;
-
-pub const FIELDS: u64 = 20;
-
-// The last value that number 14 lets through in a field.
-pub fn edge(field: u64) -> u64 {
-    match field {
-        0 => TIME_LIMIT,
-        15 => GREATEST + MAX_JITTER,
-        16 => 1,
-        17 => 65535,
-        18 => 15,
-        19 => 16,
-        _ => GREATEST,
+// The sound tunnel.
+pub fn no_damage() -> Damage {
+    Damage {
+        field: SOUND,
+        value: 0,
     }
 }
 
-// The first value that it does not let through.
-pub fn beyond(field: u64) -> u64 {
-    match field {
-        0 => TIME_LIMIT + 1,
-        15 => GREATEST + MAX_JITTER + 1,
-        16 => 0,
-        17 => 65536,
-        18 => 16,
-        19 => 17,
-        _ => GREATEST + 1,
+// The sound tunnel with an expired handshake.
+pub fn ended() -> Damage {
+    Damage {
+        field: ENDED,
+        value: 0,
+    }
+}
+
+// The tunnel that expired by a waking.
+pub fn woken() -> Damage {
+    Damage {
+        field: WOKEN,
+        value: 0,
     }
 }
 
 // One of the seven timers set to a value.
-fn with_timer(timers: Timers, field: u64, value: u64) -> Timers {
+fn with_timer(mut timers: Timers, field: u64, value: u64) -> Timers {
     match field {
-        1 => Timers {
-            time_last_handshake_completed: value,
-            ..timers
-        },
-        2 => Timers {
-            time_last_handshake_started: value,
-            ..timers
-        },
-        3 => Timers {
-            time_last_packet_received: value,
-            ..timers
-        },
-        4 => Timers {
-            time_last_packet_sent: value,
-            ..timers
-        },
-        5 => Timers {
-            time_last_data_packet_received: value,
-            ..timers
-        },
-        6 => Timers {
-            time_last_data_packet_sent: value,
-            ..timers
-        },
-        _ => Timers {
-            time_persistent_keepalive: value,
-            ..timers
-        },
+        1 => timers.time_last_handshake_completed = value,
+        2 => timers.time_last_handshake_started = value,
+        3 => timers.time_last_packet_received = value,
+        4 => timers.time_last_packet_sent = value,
+        5 => timers.time_last_data_packet_received = value,
+        6 => timers.time_last_data_packet_sent = value,
+        _ => timers.time_persistent_keepalive = value,
     }
+    timers
+}
+
+// A time, present where a field is set and otherwise as before.
+fn time_at(set: bool, value: u64, before: Time) -> Time {
+    if set {
+        return Time::At(value);
+    }
+    before
+}
+
+// The keepalive interval, likewise.
+fn interval_at(set: bool, value: u64, before: Interval) -> Interval {
+    if set {
+        return Interval::Every(value);
+    }
+    before
 }
 
 // One of the timers' present fields set to a value.
 fn with_present(timers: Timers, field: u64, value: u64) -> Timers {
-    match field {
-        10 => Timers {
-            last_data_received_without_reply: Time::At(value),
-            ..timers
-        },
-        11 => Timers {
-            first_data_sent_without_reply: Time::At(value),
-            ..timers
-        },
-        15 => Timers {
-            send_handshake_at: Time::At(value),
-            ..timers
-        },
-        _ => Timers {
-            persistent_keepalive: Interval::Every(value),
-            ..timers
-        },
+    let received = timers.last_data_received_without_reply;
+    let sent = timers.first_data_sent_without_reply;
+    let scheduled = timers.send_handshake_at;
+    let interval = timers.persistent_keepalive;
+    Timers {
+        last_data_received_without_reply: time_at(field == 10, value, received),
+        first_data_sent_without_reply: time_at(field == 11, value, sent),
+        send_handshake_at: time_at(field == 15, value, scheduled),
+        persistent_keepalive: interval_at(field > 15, value, interval),
+        ..timers
     }
 }
 
@@ -143,152 +132,105 @@ fn with_handshake_time(handshake: Handshake, field: u64, value: u64) -> Handshak
 }
 
 // The ring's head or length set to a value.
-fn with_ring(events: RingBuffer, field: u64, value: u64) -> RingBuffer {
+fn with_ring(mut events: RingBuffer, field: u64, value: u64) -> RingBuffer {
     if field == RING {
-        return RingBuffer {
-            head: value as usize,
-            ..events
-        };
+        events.head = value as usize;
+        return events;
     }
-    RingBuffer {
-        len: value as usize,
-        ..events
-    }
-}
-
-// The tunnel with another control.
-pub fn with_control(tunnel: Tunnel, control: Control) -> Tunnel {
-    Tunnel { control, ..tunnel }
-}
-
-// A field of the control set to a value.
-fn with_control_value(control: Control, field: u64, value: u64) -> Control {
-    let timers = control.timers;
-    let handshake = control.handshake;
-    let events = control.events;
-    match field {
-        1..=7 => Control {
-            timers: with_timer(timers, field, value),
-            ..control
-        },
-        9 => Control {
-            first_initiation_at: Time::At(value),
-            ..control
-        },
-        10 | 11 | 15 | 16 | 17 => Control {
-            timers: with_present(timers, field, value),
-            ..control
-        },
-        12 | 13 | 14 => Control {
-            handshake: with_handshake_time(handshake, field, value),
-            ..control
-        },
-        _ => Control {
-            events: with_ring(events, field, value),
-            ..control
-        },
-    }
-}
-
-// A field of the tunnel set to a value.
-pub fn with_value(tunnel: Tunnel, field: u64, value: u64) -> Tunnel {
-    if field == GREATEST_TIME {
-        return Tunnel {
-            greatest: value,
-            ..tunnel
-        };
-    }
-    if field == 8 {
-        return Tunnel {
-            last_update: value,
-            ..tunnel
-        };
-    }
-    let control = tunnel.control;
-    with_control(tunnel, with_control_value(control, field, value))
-}
-
-// The last value that number 14 lets through in a field of a filled slot: its time, send counter, window's next and local index.
-pub fn slot_edge(slot: u64, field: u64) -> u64 {
-    match field {
-        0 => GREATEST,
-        1 => REJECT_AFTER_MESSAGES,
-        2 => REJECT_AFTER_MESSAGES,
-        _ => 4294967288 + slot % 8,
-    }
-}
-
-// A value that it does not let through there.
-pub fn slot_beyond(slot: u64, field: u64) -> u64 {
-    match field {
-        0 => GREATEST + 1,
-        1 => REJECT_AFTER_MESSAGES + 1,
-        2 => REJECT_AFTER_MESSAGES + 1,
-        _ => 257 + slot % 8,
-    }
-}
-
-// A field of a session set to a value.
-fn with_session_value(session: Session, field: u64, value: u64) -> Session {
-    match field {
-        0 => Session {
-            established_at: value,
-            ..session
-        },
-        1 => Session {
-            sending_key_counter: value,
-            ..session
-        },
-        2 => Session {
-            next: value,
-            ..session
-        },
-        _ => Session {
-            receiving_index: (value % 4294967296) as u32,
-            ..session
-        },
-    }
+    events.len = value as usize;
+    events
 }
 
 // A field of a slot set to a value.
-pub fn with_slot(tunnel: Tunnel, slot: u64, field: u64, value: u64) -> Tunnel {
-    let control = tunnel.control;
-    let mut sessions = control.sessions;
-    let session = sessions.slots[(slot % 8) as usize];
-    sessions.slots[(slot % 8) as usize] = with_session_value(session, field, value);
-    with_control(
-        tunnel,
-        Control {
-            sessions,
-            ..control
-        },
-    )
+fn with_slot(mut sessions: Sessions, field: u64, value: u64) -> Sessions {
+    let slot = (slot_of(field) % 8) as usize;
+    let session = sessions.slots[slot];
+    sessions.slots[slot] = with_session_value(session, field % 4, value);
+    sessions
 }
 
-// Whether a slot is filled.
-pub fn is_filled(tunnel: Tunnel, slot: u64) -> bool {
-    let control = tunnel.control;
-    let sessions = control.sessions;
-    let session = sessions.slots[(slot % 8) as usize];
-    session.filled
+// A field of a session set to a value.
+fn with_session_value(mut session: Session, field: u64, value: u64) -> Session {
+    match field {
+        0 => session.established_at = value,
+        1 => session.sending_key_counter = value,
+        2 => session.next = value,
+        _ => session.receiving_index = (value % 4294967296) as u32,
+    }
+    session
 }
 
 // An established event at a place of the ring, whose first or second time is this.
-pub fn with_event(tunnel: Tunnel, place: u64, second: bool, time: u64) -> Tunnel {
-    let control = tunnel.control;
-    let mut events = control.events;
-    events.slots[(place % 16) as usize] = established(second, time);
-    with_control(tunnel, Control { events, ..control })
-}
-
-// An established event whose first or second time is this.
-fn established(second: bool, time: u64) -> Slot {
-    if second {
-        return Slot {
+fn with_event(mut events: RingBuffer, field: u64, time: u64) -> RingBuffer {
+    let place = (place_of(field) % 16) as usize;
+    if field % 2 == 1 {
+        events.slots[place] = Slot {
             event: Event::Established(0, time),
         };
+        return events;
     }
-    Slot {
+    events.slots[place] = Slot {
         event: Event::Established(time, 0),
+    };
+    events
+}
+
+// The handshake expired.
+fn expired_handshake(handshake: Handshake) -> Handshake {
+    Handshake {
+        state: HandshakeState::Expired,
+        previous: HandshakeState::Expired,
+        ..handshake
+    }
+}
+
+// The control with a first initiation at a time.
+fn with_first(control: Control, time: u64) -> Control {
+    Control {
+        first_initiation_at: Time::At(time),
+        ..control
+    }
+}
+
+// A field of the control set to a value.
+fn with_value(mut control: Control, field: u64, value: u64) -> Control {
+    match field {
+        1..=7 => control.timers = with_timer(control.timers, field, value),
+        10 | 11 | 15 | 16 | 17 => control.timers = with_present(control.timers, field, value),
+        12 | 13 | 14 => control.handshake = with_handshake_time(control.handshake, field, value),
+        18 | 19 => control.events = with_ring(control.events, field, value),
+        20..=51 => control.sessions = with_slot(control.sessions, field, value),
+        52..=83 => control.events = with_event(control.events, field, value),
+        84..=95 => control = changed(control, field),
+        97 => control.handshake = expired_handshake(control.handshake),
+        _ => control = with_first(control, value),
+    }
+    control
+}
+
+// The sound tunnel with a field set to a value.
+fn damaged(mut tunnel: Tunnel, field: u64, value: u64) -> Tunnel {
+    if field == GREATEST_TIME {
+        tunnel.greatest = value;
+        return tunnel;
+    }
+    if field == LAST_UPDATE {
+        tunnel.last_update = value;
+        return tunnel;
+    }
+    if field != SOUND {
+        tunnel.control = with_value(tunnel.control, field, value);
+        return tunnel;
+    }
+    tunnel
+}
+
+impl Damage {
+    // The tunnel.
+    pub fn tunnel(self) -> Tunnel {
+        if self.field == WOKEN {
+            return expired();
+        }
+        damaged(sound(), self.field, self.value)
     }
 }

@@ -3,9 +3,13 @@
 // back as it came: the tunnel is compared field by field, the store and the verdicts element by element. Lists that are lent for
 // reading only cannot change.
 mod arguments;
+mod ask;
 mod clauses;
 mod creation;
 mod damage;
+mod every;
+mod fields;
+mod judge;
 mod order;
 mod request;
 mod same;
@@ -17,12 +21,10 @@ use crate::arguments::argument_groups;
 use crate::clauses::clause_groups;
 use crate::creation::creation_groups;
 use crate::order::order_groups;
-use crate::sound::sound;
 
 fn main() {
-    let tunnel = sound();
-    clause_groups(tunnel);
-    argument_groups(tunnel);
-    order_groups(tunnel);
+    clause_groups();
+    argument_groups();
+    order_groups();
     creation_groups();
 }

@@ -101,8 +101,8 @@ fn same_time(a: Time, b: Time) -> bool {
     same_held(held_by_time(a), held_by_time(b))
 }
 
-// Whether two sessions have the same marks and role.
-fn same_marks(a: Session, b: Session) -> bool {
+// Whether two sessions are the same.
+fn same_session(a: Session, b: Session) -> bool {
     if a.filled != b.filled {
         return false;
     }
@@ -112,13 +112,6 @@ fn same_marks(a: Session, b: Session) -> bool {
     if a.received_data != b.received_data {
         return false;
     }
-    let role = a.role;
-    let other = b.role;
-    same_held(held_by_role(role), held_by_role(other))
-}
-
-// Whether two sessions have the same indices, counters and time.
-fn same_numbers(a: Session, b: Session) -> bool {
     if a.id != b.id {
         return false;
     }
@@ -134,15 +127,12 @@ fn same_numbers(a: Session, b: Session) -> bool {
     if a.sending_key_counter != b.sending_key_counter {
         return false;
     }
-    a.next == b.next
-}
-
-// Whether two sessions are the same.
-fn same_session(a: Session, b: Session) -> bool {
-    if same_marks(a, b) {
-        return same_numbers(a, b);
+    if a.next != b.next {
+        return false;
     }
-    false
+    let role = a.role;
+    let other = b.role;
+    same_held(held_by_role(role), held_by_role(other))
 }
 
 // Whether two tunnels' slots hold the same.
@@ -176,8 +166,14 @@ fn same_sessions(a: Sessions, b: Sessions) -> bool {
     false
 }
 
-// Whether every place of two rings holds the same.
-fn same_places(a: RingBuffer, b: RingBuffer) -> bool {
+// Whether two rings are the same.
+fn same_events(a: RingBuffer, b: RingBuffer) -> bool {
+    if a.head != b.head {
+        return false;
+    }
+    if a.len != b.len {
+        return false;
+    }
     let mut place = 0;
     while place < 16 {
         let slot = a.slots[place];
@@ -193,17 +189,6 @@ fn same_places(a: RingBuffer, b: RingBuffer) -> bool {
     true
 }
 
-// Whether two rings are the same.
-fn same_events(a: RingBuffer, b: RingBuffer) -> bool {
-    if a.head != b.head {
-        return false;
-    }
-    if a.len != b.len {
-        return false;
-    }
-    same_places(a, b)
-}
-
 // Whether two cookies are the same.
 fn same_cookies(a: Cookies, b: Cookies) -> bool {
     if a.last_mac1 != b.last_mac1 {
@@ -217,21 +202,24 @@ fn same_cookies(a: Cookies, b: Cookies) -> bool {
     same_time(received_at, other)
 }
 
+// Whether two handshake states are the same.
+fn same_state(a: HandshakeState, b: HandshakeState) -> bool {
+    same_held(held_by_state(a), held_by_state(b))
+}
+
 // Whether two handshakes are the same.
 fn same_handshake(a: Handshake, b: Handshake) -> bool {
     let state = a.state;
     let other_state = b.state;
-    let previous = a.previous;
-    let other_previous = b.previous;
-    let cookies = a.cookies;
-    let other_cookies = b.cookies;
-    if same_held(held_by_state(state), held_by_state(other_state)) {
-        if same_held(held_by_state(previous), held_by_state(other_previous)) {
-            return same_cookies(cookies, other_cookies);
-        }
+    if !same_state(state, other_state) {
         return false;
     }
-    false
+    let previous = a.previous;
+    let other_previous = b.previous;
+    if !same_state(previous, other_previous) {
+        return false;
+    }
+    same_cookies(a.cookies, b.cookies)
 }
 
 // Whether the seven timers are the same.
@@ -258,50 +246,33 @@ fn same_seven(a: Timers, b: Timers) -> bool {
 }
 
 // Whether the times that may be missing are the same.
-fn same_times(a: Timers, b: Timers) -> bool {
+fn same_present(a: Timers, b: Timers) -> bool {
     let received = a.last_data_received_without_reply;
     let other_received = b.last_data_received_without_reply;
-    let sent = a.first_data_sent_without_reply;
-    let other_sent = b.first_data_sent_without_reply;
-    let scheduled = a.send_handshake_at;
-    let other_scheduled = b.send_handshake_at;
-    if same_time(received, other_received) {
-        if same_time(sent, other_sent) {
-            return same_time(scheduled, other_scheduled);
-        }
+    if !same_time(received, other_received) {
         return false;
     }
-    false
+    let sent = a.first_data_sent_without_reply;
+    let other_sent = b.first_data_sent_without_reply;
+    if !same_time(sent, other_sent) {
+        return false;
+    }
+    let scheduled = a.send_handshake_at;
+    let other_scheduled = b.send_handshake_at;
+    same_time(scheduled, other_scheduled)
 }
 
 // Whether two tunnels' timers are the same.
 fn same_timers(a: Timers, b: Timers) -> bool {
     let interval = a.persistent_keepalive;
     let other = b.persistent_keepalive;
-    if same_held(held_by_interval(interval), held_by_interval(other)) {
-        if same_seven(a, b) {
-            return same_times(a, b);
-        }
+    if !same_held(held_by_interval(interval), held_by_interval(other)) {
         return false;
     }
-    false
-}
-
-// Whether two tunnels' sessions, timers and events are the same.
-fn same_parts(a: Control, b: Control) -> bool {
-    let sessions = a.sessions;
-    let other_sessions = b.sessions;
-    let timers = a.timers;
-    let other_timers = b.timers;
-    let events = a.events;
-    let other_events = b.events;
-    if same_sessions(sessions, other_sessions) {
-        if same_timers(timers, other_timers) {
-            return same_events(events, other_events);
-        }
+    if !same_present(a, b) {
         return false;
     }
-    false
+    same_seven(a, b)
 }
 
 // Whether two controls are the same.
@@ -310,16 +281,20 @@ fn same_control(a: Control, b: Control) -> bool {
         return false;
     }
     let first = a.first_initiation_at;
-    let other_first = b.first_initiation_at;
-    let handshake = a.handshake;
-    let other_handshake = b.handshake;
-    if same_time(first, other_first) {
-        if same_handshake(handshake, other_handshake) {
-            return same_parts(a, b);
-        }
+    let other = b.first_initiation_at;
+    if !same_time(first, other) {
         return false;
     }
-    false
+    if !same_handshake(a.handshake, b.handshake) {
+        return false;
+    }
+    if !same_sessions(a.sessions, b.sessions) {
+        return false;
+    }
+    if !same_timers(a.timers, b.timers) {
+        return false;
+    }
+    same_events(a.events, b.events)
 }
 
 // Whether two tunnels are the same.
@@ -330,7 +305,5 @@ pub fn same_tunnel(a: Tunnel, b: Tunnel) -> bool {
     if a.greatest != b.greatest {
         return false;
     }
-    let control = a.control;
-    let other = b.control;
-    same_control(control, other)
+    same_control(a.control, b.control)
 }

@@ -1,54 +1,103 @@
 // The tunnels that the cases start from.
+use crate::ask::ask;
+use crate::request::COOKIE;
+use crate::request::INITIATION;
+use crate::request::RECEIVE;
+use crate::request::RESPONSE;
+use crate::request::RESTART;
+use crate::request::Request;
+use crate::request::SEND;
+use crate::request::START;
+use crate::request::WAKING;
+use crate::request::good;
 use control::control::Control;
 use parts::event::Event;
-use parts::handshake::Handshake;
-use parts::handshake::HandshakeState;
 use parts::ring_buffer::RingBuffer;
 use parts::ring_buffer::Slot;
 use parts::timers::Timers;
-use sessions::session::Session;
 use sessions::session::Time;
+use sessions::sessions::Sessions;
 use tunnel::tunnel::Tunnel;
 
 // The greatest time of the sound tunnel.
 pub const GREATEST: u64 = 8000;
 
-// A tunnel with a session in slot 1 and a queued established event.
-fn established(store: &mut [u64]) -> Tunnel {
-    let new = Tunnel::new(store, 256, 25, 1000);
-    let created = new.tunnel;
-    let start = created.initiate_handshake(2000);
-    let started = start.tunnel;
-    let response = started.handle_handshake_response(store, 257, 9, 0, 3000);
-    response.tunnel
+// A tunnel that a creation makes.
+pub fn made(index: u32, keepalive: u64, now: u64) -> Tunnel {
+    let mut store = [0u64; 1024];
+    let answered = Tunnel::new(&mut store, index, keepalive, now);
+    answered.tunnel
 }
 
-// A tunnel whose session has received and sent data.
-fn carrying(tunnel: Tunnel, store: &mut [u64]) -> Tunnel {
-    let counters = [5u64; 1];
-    let kinds = [0u8; 1];
-    let mut verdicts = [0u8; 1];
-    let batch = tunnel.receive(store, 257, 0, 4000, &counters, &kinds, &mut verdicts);
-    let received = batch.tunnel;
-    let send = received.send(1, 5000);
-    send.tunnel
+// The calls that lead to the sound tunnel, and then those that lead to the expired one.
+const SOUND: u64 = 0;
+
+const EXPIRED: u64 = 8;
+
+const STEPS: u64 = 10;
+
+// Which call a step makes.
+fn step_call(step: u64) -> u64 {
+    match step {
+        0 | 8 => START,
+        1 => RESPONSE,
+        2 => RECEIVE,
+        3 => SEND,
+        4 => INITIATION,
+        5 | 7 => RESTART,
+        6 => COOKIE,
+        _ => WAKING,
+    }
 }
 
-// A tunnel that has besides a session in slot 2, a cookie, and an initiation sent after another one.
-fn initiating(tunnel: Tunnel, store: &mut [u64]) -> Tunnel {
-    let incoming = tunnel.handle_handshake_initiation(store, 9, 0, 5500);
-    let answered = incoming.tunnel;
-    let first = answered.restart_handshake(6000);
-    let restarted = first.tunnel;
-    let reply = restarted.handle_cookie_reply(259, 0, 6500);
-    let stored = reply.tunnel;
-    let second = stored.restart_handshake(7000);
-    second.tunnel
+// When a step is made.
+fn step_time(step: u64) -> u64 {
+    match step {
+        0 | 8 => 2000,
+        1 => 3000,
+        2 => 4000,
+        3 => 5000,
+        4 => 5500,
+        5 => 6000,
+        6 => 6500,
+        7 => 7000,
+        _ => 100_000_000_000,
+    }
+}
+
+// A step's call: peer 9, a message of counter 5, and the local index of the initiation that a response or a cookie reply is for.
+fn step_request(step: u64) -> Request {
+    let mut request = good(step_call(step), step_time(step)).with_lists(1, 1, 1);
+    request.peer = 9;
+    request.counter = 5;
+    request.index = 257;
+    if step == 6 {
+        request.index = 259;
+    }
+    request
+}
+
+// The tunnel after a step.
+fn after(tunnel: Tunnel, step: u64, words: &mut [u64]) -> Tunnel {
+    let mut verdicts = [0u8; 1025];
+    let answered = ask(tunnel, step_request(step), words, &mut verdicts);
+    answered.tunnel
+}
+
+// A tunnel after the steps from one up to another.
+fn after_steps(keepalive: u64, first: u64, end: u64) -> Tunnel {
+    let mut words = [0u64; 1025];
+    let mut tunnel = made(256, keepalive, 1000);
+    let mut step = first;
+    while step < end {
+        tunnel = after(tunnel, step, &mut words);
+        step = step + 1;
+    }
+    tunnel
 }
 
 // A ring that begins at place 12 and goes on to place 2; the event at place 0 stays.
-fn wrapped(events: RingBuffer) -> RingBuffer {
-    let mut ring = events;
+fn wrapped(mut ring: RingBuffer) -> RingBuffer {
     ring.slots[12] = Slot {
         event: Event::Established(2000, 3000),
     };
@@ -58,11 +107,9 @@ fn wrapped(events: RingBuffer) -> RingBuffer {
     ring.slots[14] = Slot {
         event: Event::SendKeepalive(9, 4),
     };
-    RingBuffer {
-        head: 12,
-        len: 7,
-        ..ring
-    }
+    ring.head = 12;
+    ring.len = 7;
+    ring
 }
 
 // Timers with every time that may be missing.
@@ -75,62 +122,32 @@ fn all_present(timers: Timers) -> Timers {
     }
 }
 
-// A tunnel with every present field set, with slots 1, 2 and 5 filled and with a ring that wraps.
-fn filled(tunnel: Tunnel) -> Tunnel {
-    let control = tunnel.control;
-    let timers = control.timers;
-    let events = control.events;
-    let mut sessions = control.sessions;
-    let session = sessions.slots[1];
-    sessions.slots[5] = Session {
-        id: 2,
-        receiving_index: 253,
-        ..session
-    };
-    Tunnel {
-        control: Control {
-            timers: all_present(timers),
-            events: wrapped(events),
-            sessions,
-            ..control
-        },
-        greatest: GREATEST,
-        ..tunnel
-    }
+// The session of slot 1 besides in slot 5, with an id and a local index of its own.
+fn with_third(mut sessions: Sessions) -> Sessions {
+    let mut session = sessions.slots[1];
+    session.id = 2;
+    session.receiving_index = 253;
+    sessions.slots[5] = session;
+    sessions
 }
 
-// The sound tunnel.
+// A control with every present field set, with slots 1, 2 and 5 filled and with a ring that wraps.
+fn filled(mut control: Control) -> Control {
+    control.timers = all_present(control.timers);
+    control.events = wrapped(control.events);
+    control.sessions = with_third(control.sessions);
+    control
+}
+
+// The sound tunnel: two sessions by handshakes, data in both directions, a cookie, and an initiation sent after another one.
 pub fn sound() -> Tunnel {
-    let mut store = [0u64; 1024];
-    let opened = established(&mut store);
-    let carried = carrying(opened, &mut store);
-    filled(initiating(carried, &mut store))
-}
-
-// The tunnel with an expired handshake and all else as it is.
-pub fn with_expired(tunnel: Tunnel) -> Tunnel {
-    let control = tunnel.control;
-    let handshake = control.handshake;
-    Tunnel {
-        control: Control {
-            handshake: Handshake {
-                state: HandshakeState::Expired,
-                previous: HandshakeState::Expired,
-                ..handshake
-            },
-            ..control
-        },
-        ..tunnel
-    }
+    let mut tunnel = after_steps(25, SOUND, EXPIRED);
+    tunnel.control = filled(tunnel.control);
+    tunnel.greatest = GREATEST;
+    tunnel
 }
 
 // A tunnel that expired by a waking 100 s after it started a handshake.
 pub fn expired() -> Tunnel {
-    let mut store = [0u64; 1024];
-    let new = Tunnel::new(&mut store, 256, 0, 1000);
-    let created = new.tunnel;
-    let start = created.initiate_handshake(2000);
-    let started = start.tunnel;
-    let waking = started.handle_timeout(&mut store, 0, 100_000_000_000);
-    waking.tunnel
+    after_steps(0, EXPIRED, STEPS)
 }

@@ -100,107 +100,60 @@ fn settle(
 }
 
 // Makes the call of the line that was gathered, and puts its answer.
-fn end_line(
-    progress: Progress,
-    line: &[u8],
-    store: &mut [u64],
-    counters: &mut [u64],
-    kinds: &mut [u8],
-    verdicts: &mut [u8],
-    out: &mut [u8],
-) -> Progress {
+fn end_line(progress: Progress, line: &[u8], store: &mut [u64], out: &mut [u8]) -> Progress {
+    let mut counters = [0u64; 1025];
+    let mut kinds = [0u8; 1025];
+    let mut verdicts = [0u8; 1025];
     let console = progress.console;
-    let asked = gathered_line(console, line, counters, kinds);
-    let answered = call(progress.tunnel, asked, store, counters, kinds, verdicts);
-    settle(answered, console, asked, verdicts, out)
+    let asked = gathered_line(console, line, &mut counters, &mut kinds);
+    let answered = call(
+        progress.tunnel,
+        asked,
+        store,
+        &counters,
+        &kinds,
+        &mut verdicts,
+    );
+    settle(answered, console, asked, &verdicts, out)
 }
 
-// The progress with the bytes up to the next newline.
-fn gather(progress: Progress, line: &mut [u8], part: &[u8]) -> Progress {
-    let console = progress.console;
+// The console with the bytes up to the next newline.
+fn gather(console: Console, line: &mut [u8], part: &[u8]) -> Console {
     let before = console.gathered;
-    let after = Console {
+    Console {
         gathered: before.append(line, part),
         ..console
-    };
-    Progress {
-        console: after,
-        ..progress
     }
 }
 
 // Answers each line that ends in a part of the input.
 fn take_part(
-    begun: Progress,
+    mut progress: Progress,
     input: &[u8],
     line: &mut [u8],
     store: &mut [u64],
-    counters: &mut [u64],
-    kinds: &mut [u8],
-    verdicts: &mut [u8],
     out: &mut [u8],
 ) -> Progress {
-    let mut progress = begun;
     let mut at = 0;
     while at < input.len() {
         let end = newline(input, at);
-        progress = gather(progress, line, &input[at..end]);
+        progress.console = gather(progress.console, line, &input[at..end]);
         if end >= input.len() {
             return progress;
         }
-        progress = end_line(progress, line, store, counters, kinds, verdicts, out);
         at = end + 1;
+        progress = end_line(progress, line, store, out);
     }
     progress
 }
 
-// The progress with nothing waiting: all of it is written out.
-fn emptied(progress: Progress, out: &[u8]) -> Progress {
-    let console = progress.console;
+// The console with nothing waiting: all of it is written out.
+fn emptied(console: Console, out: &[u8]) -> Console {
     flush(console.written, out);
-    let after = Console {
+    Console {
         written: 0,
         ..console
-    };
-    Progress {
-        console: after,
-        ..progress
     }
-}
-
-// Answers the last line if it has no newline.
-fn end_input(
-    progress: Progress,
-    line: &[u8],
-    store: &mut [u64],
-    counters: &mut [u64],
-    kinds: &mut [u8],
-    verdicts: &mut [u8],
-    out: &mut [u8],
-) -> Progress {
-    let console = progress.console;
-    let gathered = console.gathered;
-    if gathered.begun() {
-        return end_line(progress, line, store, counters, kinds, verdicts, out);
-    }
-    progress
-}
-
-// Answers the lines that end in a part of the input; a part of no bytes is the input's end.
-fn take_input(
-    begun: Progress,
-    part: &[u8],
-    line: &mut [u8],
-    store: &mut [u64],
-    counters: &mut [u64],
-    kinds: &mut [u8],
-    verdicts: &mut [u8],
-    out: &mut [u8],
-) -> Progress {
-    if part.len() == 0 {
-        return end_input(begun, line, store, counters, kinds, verdicts, out);
-    }
-    take_part(begun, part, line, store, counters, kinds, verdicts, out)
 }
 
 // Reads once, and answers how many bytes came: none at the input's end.
@@ -211,34 +164,41 @@ fn read_input(input: &mut [u8]) -> usize
     io::count(got, input)
 }
 
+// How many bytes of the input to take: as many as came. At the input's end, where none came, a line that has no newline gets one.
+fn to_take(console: Console, came: usize, input: &mut [u8]) -> usize
+    requires { ⌜ came ≤ length (now input) ⌝ }
+    ensures { λ r. ⌜ r ≤ length (now (input .exit)) ⌝ }
+{
+    let gathered = console.gathered;
+    if came > 0 {
+        return came;
+    }
+    if input.len() < 1 {
+        return 0;
+    }
+    if gathered.begun() {
+        input[0] = b'\n';
+        return 1;
+    }
+    0
+}
+
 // A proved loop has to end, and nothing says that the input does. So the loop counts its turns down, from a number that no run
 // uses up.
 fn take_all(
-    begun: Progress,
+    mut progress: Progress,
     input: &mut [u8],
     line: &mut [u8],
     store: &mut [u64],
-    counters: &mut [u64],
-    kinds: &mut [u8],
-    verdicts: &mut [u8],
     out: &mut [u8],
 ) {
-    let mut progress = begun;
     let mut turns = u64::MAX;
     while turns > 0 {
-        let n = read_input(input);
-        let taken = take_input(
-            progress,
-            &input[..n],
-            line,
-            store,
-            counters,
-            kinds,
-            verdicts,
-            out,
-        );
-        progress = emptied(taken, out);
-        if n == 0 {
+        let came = read_input(input);
+        let n = to_take(progress.console, came, input);
+        progress = take_part(progress, &input[..n], line, store, out);
+        progress.console = emptied(progress.console, out);
+        if came == 0 {
             return;
         }
         turns = turns - 1;
@@ -262,18 +222,6 @@ fn main() {
     let mut line = io::large_buffer();
     let mut out = io::large_buffer();
     let mut store = [0u64; 1024];
-    let mut counters = [0u64; 1025];
-    let mut kinds = [0u8; 1025];
-    let mut verdicts = [0u8; 1025];
     let progress = fresh(&mut store);
-    take_all(
-        progress,
-        &mut input,
-        &mut line,
-        &mut store,
-        &mut counters,
-        &mut kinds,
-        &mut verdicts,
-        &mut out,
-    );
+    take_all(progress, &mut input, &mut line, &mut store, &mut out);
 }

@@ -1,20 +1,22 @@
 -- One law for each way out: what the code hands back is what the definition says, under the tests that led there.
 -- Assumes nothing.
 use mathlib.Core.Path.{_≡_}
-use mathlib.Core.Bool.{Bool, false}
+use mathlib.Core.Bool.{Bool, true, false}
 use Prim.Native.Nat.{ℕ, _+_, _-_, _*_, _≤_, _<_}
 use native.Mathlib.Omega.{arith}
 use borrow.Author.Tests.{eq-eqb, ne-eqb}
 use Rattle.base.specs.Choice.{choose}
+use Rattle.parts.specs.Handshake.{cookieExpiration, clearCookie, expireCookieOf}
 use Rattle.parts.specs.RingBuffer.{ringOf, placeOf, eventAt, storeAt, pushBack, popFront}
-use Rattle.parts.specs.Timers.{TimeWithin, IntervalWithin, withWaiting, withDataSent, getOr, tickLastHandshakeCompleted, tickLastHandshakeStarted, tickLastPacketReceived, tickLastPacketSent, tickLastDataPacketSent, tickResponse, tickCompleted, tickInitiation, cancelScheduledHandshake}
+use Rattle.parts.specs.Timers.{TimeWithin, IntervalWithin, withWaiting, withDataSent, getOr, tickLastHandshakeCompleted, tickLastHandshakeStarted, tickLastPacketReceived, tickLastPacketSent, tickLastDataPacketReceived, tickLastDataPacketSent, tickAccepted, tickResponse, tickCompleted, tickInitiation, cancelScheduledHandshake}
 use Rattle.parts.specs.declared.event.Event.{Event}
 use Rattle.parts.specs.declared.event.Event.the-variants.{Empty}
+use Rattle.parts.specs.declared.handshake.Handshake.{Handshake}
 use Rattle.parts.specs.declared.ring_buffer.RingBuffer.{RingBuffer}
 use Rattle.parts.specs.declared.timers.Interval.{Interval}
 use Rattle.parts.specs.declared.timers.Interval.the-variants.{Every}
 use Rattle.parts.specs.declared.timers.Timers.{Timers}
-use Rattle.sessions.specs.Session.{timeLimit}
+use Rattle.sessions.specs.Session.{timeLimit, dueBy}
 use Rattle.sessions.specs.declared.session.Time.{Time}
 use Rattle.sessions.specs.declared.session.Time.the-variants.{At}
 use mir.Syntax.{w64}
@@ -63,6 +65,24 @@ module _ (t : Timers) (now : ℕ) where
       → b ≡ tickInitiation t f now
   unfolding tickInitiation choose
   initiated a b f e p q = rw (e, ← p) q
+
+  pub accepted : (a b : Timers) (f : Bool) → f ≡ true → a ≡ tickLastPacketReceived t now → b ≡ tickLastDataPacketReceived a now → b ≡ tickAccepted t f now
+  unfolding tickAccepted choose
+  accepted a b f e p q = rw (e, ← p) q
+
+  pub accepted-none : (a : Timers) (f : Bool) → f ≡ false → a ≡ tickLastPacketReceived t now → a ≡ tickAccepted t f now
+  unfolding tickAccepted choose
+  accepted-none a f e p = rw e p
+
+-- the cookie that is due, and one that is not
+module _ (h : Handshake) (now : ℕ) (flag : Bool) (at : Time) (a : at ≡ cookieExpiration h) (f : flag ≡ dueBy at now) where
+  pub cookie-due : (out : Handshake) → flag ≡ true → out ≡ clearCookie h → out ≡ expireCookieOf h now
+  unfolding expireCookieOf choose
+  cookie-due out y e = rw (← a, ← f, y) e
+
+  pub cookie-kept : flag ≡ false → h ≡ expireCookieOf h now
+  unfolding expireCookieOf choose
+  cookie-kept n = rw (← a, ← f, n)
 
 -- a place of the ring
 pub place-small : (place head offset : ℕ) → place ≡ placeOf head offset → place < 16

@@ -13,7 +13,7 @@ use Rattle.parts.specs.declared.handshake.Cookies.{Cookies}
 use Rattle.parts.specs.declared.handshake.Handshake.{Handshake}
 use Rattle.parts.specs.declared.handshake.HandshakeState.{HandshakeState}
 use Rattle.parts.specs.declared.handshake.HandshakeState.the-variants.{None, InitSent, Expired}
-use Rattle.sessions.specs.Session.{caseTime, newSession}
+use Rattle.sessions.specs.Session.{caseTime, dueBy, newSession}
 use Rattle.sessions.specs.declared.session.Role.the-variants.{Initiator, Responder}
 use Rattle.sessions.specs.declared.session.Session.{Session}
 use Rattle.sessions.specs.declared.session.Time.{Time}
@@ -89,6 +89,10 @@ cookieExpiration h = caseTime (h .cookies .«write_cookie») Never (λ at. At (a
 -- the stored cookie dropped
 unfoldable pub clearCookie : Handshake → Handshake
 clearCookie h = withCookies h (tracking (h .cookies .«last_mac1») (h .cookies .index) Never)
+
+-- the stored cookie dropped if it has expired
+unfoldable pub expireCookieOf : Handshake → ℕ → Handshake
+expireCookieOf h now = choose (dueBy (cookieExpiration h) now) (clearCookie h) h
 
 -- a message with this local index was sent, whose cookie reply is then awaited
 unfoldable pub appendMac1AndMac2 : Handshake → ℕ → Handshake

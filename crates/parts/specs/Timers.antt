@@ -229,6 +229,10 @@ cancelScheduledHandshake t = withScheduled t Never
 unfoldable pub consumePassiveKeepalive : Timers → Timers
 consumePassiveKeepalive t = withUnanswered t Never
 
+-- messages were accepted, data among them or not
+unfoldable pub tickAccepted : Timers → Bool → ℕ → Timers
+tickAccepted t hasData now = choose hasData (tickLastDataPacketReceived (tickLastPacketReceived t now) now) (tickLastPacketReceived t now)
+
 -- an initiation was answered by a response
 unfoldable pub tickResponse : Timers → ℕ → Timers
 tickResponse t now = tickLastHandshakeCompleted (tickLastPacketSent (tickLastPacketReceived t now) now) now

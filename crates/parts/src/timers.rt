@@ -5,7 +5,7 @@ use sessions::session::REKEY_TIMEOUT;
 use sessions::session::Time;
 ghost use mathlib.Core.Path.{_≡_};
 ghost use Rattle.sessions.specs.Session.{timeLimit};
-ghost use Rattle.parts.specs.Timers.{TimeWithin, TimersWithin, getOr, rekeyTimeoutOf, newTimers, rejectAfterTimeOf, rekeyAttemptDeadline, rekeyAfterTimeWithoutResponse, keepaliveAfterTimeWithoutSend, nextPersistentKeepalive, clearTimers, tickLastHandshakeCompleted, tickLastHandshakeStarted, tickLastPacketReceived, tickLastPacketSent, tickLastDataPacketReceived, tickLastDataPacketSent, tickPersistentKeepalive, tickResponse, tickCompleted, tickInitiation, scheduleHandshake, cancelScheduledHandshake, consumePassiveKeepalive};
+ghost use Rattle.parts.specs.Timers.{TimeWithin, TimersWithin, getOr, rekeyTimeoutOf, newTimers, rejectAfterTimeOf, rekeyAttemptDeadline, rekeyAfterTimeWithoutResponse, keepaliveAfterTimeWithoutSend, nextPersistentKeepalive, clearTimers, tickLastHandshakeCompleted, tickLastHandshakeStarted, tickLastPacketReceived, tickLastPacketSent, tickLastDataPacketReceived, tickLastDataPacketSent, tickPersistentKeepalive, tickAccepted, tickResponse, tickCompleted, tickInitiation, scheduleHandshake, cancelScheduledHandshake, consumePassiveKeepalive};
 
 pub const REKEY_ATTEMPT_TIME: u64 = 90_000_000_000;
 
@@ -223,6 +223,17 @@ impl Timers {
     {
         self.time_persistent_keepalive = now;
         self
+    }
+
+    // Messages were accepted, data among them or not.
+    pub fn tick_accepted(self, data: bool, now: u64) -> Timers
+        ensures { λ r. ⌜ r ≡ tickAccepted self «data» now ⌝ }
+    {
+        let received = self.tick_last_packet_received(now);
+        if data {
+            return received.tick_last_data_packet_received(now);
+        }
+        received
     }
 
     // An initiation was answered by a response.

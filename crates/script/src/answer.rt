@@ -9,18 +9,6 @@ use sessions::range::Range;
 use sessions::range::Split;
 use sessions::session::Time;
 
-// Puts a word and a number.
-fn put_one(out: &mut [u8], at: usize, word: &[u8], n: u64) -> usize {
-    let first = put_text(out, at, word);
-    put_number(out, first, n)
-}
-
-// Puts a word and two numbers.
-fn put_two(out: &mut [u8], at: usize, word: &[u8], n: u64, m: u64) -> usize {
-    let second = put_one(out, at, word, n);
-    put_number(out, second, m)
-}
-
 // Puts the numbers of a range.
 fn put_range(out: &mut [u8], at: usize, range: Range) -> usize {
     let second = put_number(out, at, range.peer as u64);
@@ -28,47 +16,151 @@ fn put_range(out: &mut [u8], at: usize, range: Range) -> usize {
     put_number(out, third, range.length)
 }
 
-// Puts an event.
-fn put_event(out: &mut [u8], at: usize, event: Event) -> usize {
+// The words that an answer begins with.
+enum Words {
+    No,
+    Done,
+    Nothing,
+    Initiation,
+    Response,
+    Keepalive,
+    Granted,
+    Established,
+    Expired,
+    Deadline,
+    Missing,
+}
+
+// An answer: its words, and how many of the three numbers follow them.
+struct Said {
+    words: Words,
+    count: u8,
+    first: u64,
+    second: u64,
+    third: u64,
+}
+
+// Words alone.
+fn words_alone(words: Words) -> Said {
+    Said {
+        words,
+        count: 0,
+        first: 0,
+        second: 0,
+        third: 0,
+    }
+}
+
+// Words and a number.
+fn words_and_one(words: Words, first: u64) -> Said {
+    Said {
+        words,
+        count: 1,
+        first,
+        second: 0,
+        third: 0,
+    }
+}
+
+// Words and two numbers.
+fn words_and_two(words: Words, first: u64, second: u64) -> Said {
+    Said {
+        words,
+        count: 2,
+        first,
+        second,
+        third: 0,
+    }
+}
+
+// What a granted range says.
+fn said_of_range(range: Range) -> Said {
+    Said {
+        words: Words::Granted,
+        count: 3,
+        first: range.peer as u64,
+        second: range.first,
+        third: range.length,
+    }
+}
+
+// What an event says.
+fn said_of_event(event: Event) -> Said {
     match event {
-        Event::Empty => put_text(out, at, b"ok none"),
-        Event::SendHandshakeInitiation(index) => put_one(out, at, b"ok init", index as u64),
-        Event::SendKeepalive(peer, counter) => put_two(out, at, b"ok key", peer as u64, counter),
-        Event::Established(started_at, confirmed_at) => {
-            put_two(out, at, b"ok est", started_at, confirmed_at)
+        Event::Empty => words_alone(Words::Nothing),
+        Event::SendHandshakeInitiation(index) => words_and_one(Words::Initiation, index as u64),
+        Event::SendKeepalive(peer, counter) => {
+            words_and_two(Words::Keepalive, peer as u64, counter)
         }
-        Event::ConnectionExpired => put_text(out, at, b"ok exp"),
+        Event::Established(started_at, confirmed_at) => {
+            words_and_two(Words::Established, started_at, confirmed_at)
+        }
+        Event::ConnectionExpired => words_alone(Words::Expired),
     }
 }
 
-// Puts a deadline.
-fn put_deadline(out: &mut [u8], at: usize, deadline: Time) -> usize {
+// What a deadline says.
+fn said_of_deadline(deadline: Time) -> Said {
     match deadline {
-        Time::Never => put_text(out, at, b"ok none"),
-        Time::At(time) => put_one(out, at, b"ok at", time),
+        Time::Never => words_alone(Words::Nothing),
+        Time::At(time) => words_and_one(Words::Deadline, time),
     }
 }
 
-// Puts a granted range.
-fn put_granted(out: &mut [u8], at: usize, range: Range) -> usize {
-    let next = put_text(out, at, b"ok range");
-    put_range(out, next, range)
+// What a call's answer says.
+fn said_of_answer(answer: Answer) -> Said {
+    match answer {
+        Answer::No(number) => words_and_one(Words::No, number as u64),
+        Answer::Done => words_alone(Words::Done),
+        Answer::NoAnswer => words_alone(Words::Nothing),
+        Answer::Initiation(index) => words_and_one(Words::Initiation, index as u64),
+        Answer::Response(index, peer) => words_and_two(Words::Response, index as u64, peer as u64),
+        Answer::Keepalive(peer, counter) => words_and_two(Words::Keepalive, peer as u64, counter),
+        Answer::Granted(range) => said_of_range(range),
+        Answer::Polled(event) => said_of_event(event),
+        Answer::Deadline(deadline) => said_of_deadline(deadline),
+        Answer::Report(missing) => words_and_one(Words::Missing, missing),
+    }
+}
+
+// Puts the words that an answer begins with.
+fn put_words(out: &mut [u8], at: usize, words: Words) -> usize {
+    match words {
+        Words::No => put_text(out, at, b"no"),
+        Words::Done => put_text(out, at, b"ok"),
+        Words::Nothing => put_text(out, at, b"ok none"),
+        Words::Initiation => put_text(out, at, b"ok init"),
+        Words::Response => put_text(out, at, b"ok resp"),
+        Words::Keepalive => put_text(out, at, b"ok key"),
+        Words::Granted => put_text(out, at, b"ok range"),
+        Words::Established => put_text(out, at, b"ok est"),
+        Words::Expired => put_text(out, at, b"ok exp"),
+        Words::Deadline => put_text(out, at, b"ok at"),
+        Words::Missing => put_text(out, at, b"ok missing"),
+    }
+}
+
+// Puts what an answer says.
+fn put_said(out: &mut [u8], at: usize, said: Said) -> usize {
+    let words = said.words;
+    let first = put_words(out, at, words);
+    if said.count == 0 {
+        return first;
+    }
+    let second = put_number(out, first, said.first);
+    if said.count == 1 {
+        return second;
+    }
+    let third = put_number(out, second, said.second);
+    if said.count == 2 {
+        return third;
+    }
+    put_number(out, third, said.third)
 }
 
 // Puts a call's answer.
 fn put_answer(out: &mut [u8], at: usize, answer: Answer) -> usize {
-    match answer {
-        Answer::No(number) => put_one(out, at, b"no", number as u64),
-        Answer::Done => put_text(out, at, b"ok"),
-        Answer::NoAnswer => put_text(out, at, b"ok none"),
-        Answer::Initiation(index) => put_one(out, at, b"ok init", index as u64),
-        Answer::Response(index, peer) => put_two(out, at, b"ok resp", index as u64, peer as u64),
-        Answer::Keepalive(peer, counter) => put_two(out, at, b"ok key", peer as u64, counter),
-        Answer::Granted(range) => put_granted(out, at, range),
-        Answer::Polled(event) => put_event(out, at, event),
-        Answer::Deadline(deadline) => put_deadline(out, at, deadline),
-        Answer::Report(missing) => put_one(out, at, b"ok missing", missing),
-    }
+    put_said(out, at, said_of_answer(answer))
 }
 
 // A verdict as a number of 64 bits.
@@ -138,28 +230,23 @@ fn put_received(
 
 // Puts what a line's call answered.
 fn put_reply(out: &mut [u8], at: usize, line: Line, answer: Answer, verdicts: &[u8]) -> usize {
-    match line {
-        Line::Recv {
-            index: _,
-            session: _,
-            time: _,
-            messages,
-        } => return put_received(out, at, answer, messages, verdicts),
-        Line::Split {
-            peer,
-            first,
-            length,
-            at: cut,
-        } => return put_cut(out, at, peer, first, length, cut),
-        Line::Unreadable => return put_answer(out, at, answer),
-        Line::New {
-            index: _,
-            keepalive: _,
-            time: _,
-        } => return put_answer(out, at, answer),
-        Line::Handshake(_) => return put_answer(out, at, answer),
-        Line::Session(_) => return put_answer(out, at, answer),
+    if let Line::Recv {
+        index: _,
+        session: _,
+        time: _,
+        messages,
+    } = line {
+        return put_received(out, at, answer, messages, verdicts);
     }
+    if let Line::Split {
+        peer,
+        first,
+        length,
+        at: cut,
+    } = line {
+        return put_cut(out, at, peer, first, length, cut);
+    }
+    put_answer(out, at, answer)
 }
 
 // Puts the line that answers a line.

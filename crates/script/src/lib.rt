@@ -5,5 +5,6 @@ pub mod gather;
 pub mod line;
 pub mod messages;
 pub mod name;
+pub mod numbers;
 pub mod text;
 pub mod word;

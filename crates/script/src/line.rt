@@ -3,10 +3,11 @@ use crate::messages::Messages;
 use crate::messages::read_messages;
 use crate::name::Name;
 use crate::name::call_name;
-use crate::word::Field;
-use crate::word::IndexField;
-use crate::word::read_index;
-use crate::word::read_number;
+use crate::numbers::Numbers;
+use crate::numbers::indices_of;
+use crate::numbers::numbers_of;
+use crate::numbers::read_numbers;
+use crate::numbers::readable;
 use crate::word::skip_spaces;
 use crate::word::word_end;
 
@@ -70,237 +71,79 @@ pub enum Line {
     },
 }
 
-// Reads index, keepalive, time.
-fn read_new(line: &[u8], at: usize) -> Line {
-    let IndexField::Index(index, second) = read_index(line, at) else {
-        return Line::Unreadable;
-    };
-    let Field::Read(keepalive, third) = read_number(line, second) else {
-        return Line::Unreadable;
-    };
-    let Field::Read(time, end) = read_number(line, third) else {
-        return Line::Unreadable;
-    };
-    if end < line.len() {
-        return Line::Unreadable;
-    }
-    Line::New {
-        index,
-        keepalive,
-        time,
-    }
-}
-
-// Reads the time of a start.
-fn read_init(line: &[u8], at: usize) -> Line {
-    let Field::Read(time, end) = read_number(line, at) else {
-        return Line::Unreadable;
-    };
-    if end < line.len() {
-        return Line::Unreadable;
-    }
-    Line::Handshake(HandshakeCall::Init { time })
-}
-
-// Reads the time of a restart.
-fn read_restart(line: &[u8], at: usize) -> Line {
-    let Field::Read(time, end) = read_number(line, at) else {
-        return Line::Unreadable;
-    };
-    if end < line.len() {
-        return Line::Unreadable;
-    }
-    Line::Handshake(HandshakeCall::Restart { time })
-}
-
-// Reads receiver, peer, outcome, time.
-fn read_resp(line: &[u8], at: usize) -> Line {
-    let IndexField::Index(receiver, second) = read_index(line, at) else {
-        return Line::Unreadable;
-    };
-    let IndexField::Index(peer, third) = read_index(line, second) else {
-        return Line::Unreadable;
-    };
-    let Field::Read(outcome, fourth) = read_number(line, third) else {
-        return Line::Unreadable;
-    };
-    let Field::Read(time, end) = read_number(line, fourth) else {
-        return Line::Unreadable;
-    };
-    if end < line.len() {
-        return Line::Unreadable;
-    }
-    Line::Handshake(HandshakeCall::Resp {
-        receiver,
-        peer,
-        outcome,
-        time,
-    })
-}
-
-// Reads peer, outcome, time.
-fn read_hello(line: &[u8], at: usize) -> Line {
-    let IndexField::Index(peer, second) = read_index(line, at) else {
-        return Line::Unreadable;
-    };
-    let Field::Read(outcome, third) = read_number(line, second) else {
-        return Line::Unreadable;
-    };
-    let Field::Read(time, end) = read_number(line, third) else {
-        return Line::Unreadable;
-    };
-    if end < line.len() {
-        return Line::Unreadable;
-    }
-    Line::Handshake(HandshakeCall::Hello {
-        peer,
-        outcome,
-        time,
-    })
-}
-
-// Reads receiver, outcome, time.
-fn read_cookie(line: &[u8], at: usize) -> Line {
-    let IndexField::Index(receiver, second) = read_index(line, at) else {
-        return Line::Unreadable;
-    };
-    let Field::Read(outcome, third) = read_number(line, second) else {
-        return Line::Unreadable;
-    };
-    let Field::Read(time, end) = read_number(line, third) else {
-        return Line::Unreadable;
-    };
-    if end < line.len() {
-        return Line::Unreadable;
-    }
-    Line::Handshake(HandshakeCall::Cookie {
-        receiver,
-        outcome,
-        time,
-    })
-}
-
-// Reads count, time.
-fn read_send(line: &[u8], at: usize) -> Line {
-    let Field::Read(count, second) = read_number(line, at) else {
-        return Line::Unreadable;
-    };
-    let Field::Read(time, end) = read_number(line, second) else {
-        return Line::Unreadable;
-    };
-    if end < line.len() {
-        return Line::Unreadable;
-    }
-    Line::Session(SessionCall::Send { count, time })
-}
-
-// Reads index, session id, time and the messages.
-fn read_recv(line: &[u8], at: usize, counters: &mut [u64], kinds: &mut [u8]) -> Line {
-    let IndexField::Index(index, second) = read_index(line, at) else {
-        return Line::Unreadable;
-    };
-    let Field::Read(session, third) = read_number(line, second) else {
-        return Line::Unreadable;
-    };
-    let Field::Read(time, fourth) = read_number(line, third) else {
-        return Line::Unreadable;
-    };
-    let Messages::Stored(held) = read_messages(line, fourth, counters, kinds) else {
-        return Line::Unreadable;
-    };
-    Line::Recv {
-        index,
-        session,
-        time,
-        messages: held,
+// The line of a call with its numbers, and with so many messages where it is a batch.
+fn line_of(name: Name, n: Numbers, messages: usize) -> Line {
+    let index = (n.first % 4294967296) as u32;
+    match name {
+        Name::Unknown => Line::Unreadable,
+        Name::New => Line::New {
+            index,
+            keepalive: n.second,
+            time: n.third,
+        },
+        Name::Init => Line::Handshake(HandshakeCall::Init { time: n.first }),
+        Name::Restart => Line::Handshake(HandshakeCall::Restart { time: n.first }),
+        Name::Resp => Line::Handshake(HandshakeCall::Resp {
+            receiver: index,
+            peer: (n.second % 4294967296) as u32,
+            outcome: n.third,
+            time: n.fourth,
+        }),
+        Name::Hello => Line::Handshake(HandshakeCall::Hello {
+            peer: index,
+            outcome: n.second,
+            time: n.third,
+        }),
+        Name::Cookie => Line::Handshake(HandshakeCall::Cookie {
+            receiver: index,
+            outcome: n.second,
+            time: n.third,
+        }),
+        Name::Send => Line::Session(SessionCall::Send {
+            count: n.first,
+            time: n.second,
+        }),
+        Name::Recv => Line::Recv {
+            index,
+            session: n.second,
+            time: n.third,
+            messages,
+        },
+        Name::Look => Line::Session(SessionCall::Look {
+            index,
+            counter: n.second,
+            time: n.third,
+        }),
+        Name::Wake => Line::Session(SessionCall::Wake {
+            jitter: n.first,
+            time: n.second,
+        }),
+        Name::Event => Line::Session(SessionCall::Event),
+        Name::Next => Line::Session(SessionCall::Next),
+        Name::Missing => Line::Session(SessionCall::Missing { index }),
+        Name::Split => Line::Split {
+            peer: index,
+            first: n.second,
+            length: n.third,
+            at: n.fourth,
+        },
     }
 }
 
-// Reads index, counter, time.
-fn read_look(line: &[u8], at: usize) -> Line {
-    let IndexField::Index(index, second) = read_index(line, at) else {
-        return Line::Unreadable;
-    };
-    let Field::Read(counter, third) = read_number(line, second) else {
-        return Line::Unreadable;
-    };
-    let Field::Read(time, end) = read_number(line, third) else {
-        return Line::Unreadable;
-    };
-    if end < line.len() {
+// The line of a call whose numbers end the line.
+fn whole_line(name: Name, numbers: Numbers, line: &[u8]) -> Line {
+    if numbers.next < line.len() {
         return Line::Unreadable;
     }
-    Line::Session(SessionCall::Look {
-        index,
-        counter,
-        time,
-    })
+    line_of(name, numbers, 0)
 }
 
-// Reads jitter, time.
-fn read_wake(line: &[u8], at: usize) -> Line {
-    let Field::Read(jitter, second) = read_number(line, at) else {
+// The line of a batch: its messages follow the numbers.
+fn read_recv(numbers: Numbers, line: &[u8], counters: &mut [u64], kinds: &mut [u8]) -> Line {
+    let Messages::Stored(messages) = read_messages(line, numbers.next, counters, kinds) else {
         return Line::Unreadable;
     };
-    let Field::Read(time, end) = read_number(line, second) else {
-        return Line::Unreadable;
-    };
-    if end < line.len() {
-        return Line::Unreadable;
-    }
-    Line::Session(SessionCall::Wake { jitter, time })
-}
-
-// A call with no arguments.
-fn read_event(line: &[u8], at: usize) -> Line {
-    if at < line.len() {
-        return Line::Unreadable;
-    }
-    Line::Session(SessionCall::Event)
-}
-
-// A call with no arguments.
-fn read_next(line: &[u8], at: usize) -> Line {
-    if at < line.len() {
-        return Line::Unreadable;
-    }
-    Line::Session(SessionCall::Next)
-}
-
-// Reads an index.
-fn read_missing(line: &[u8], at: usize) -> Line {
-    let IndexField::Index(index, end) = read_index(line, at) else {
-        return Line::Unreadable;
-    };
-    if end < line.len() {
-        return Line::Unreadable;
-    }
-    Line::Session(SessionCall::Missing { index })
-}
-
-// Reads peer, first, length, at.
-fn read_split(line: &[u8], at: usize) -> Line {
-    let IndexField::Index(peer, second) = read_index(line, at) else {
-        return Line::Unreadable;
-    };
-    let Field::Read(first, third) = read_number(line, second) else {
-        return Line::Unreadable;
-    };
-    let Field::Read(length, fourth) = read_number(line, third) else {
-        return Line::Unreadable;
-    };
-    let Field::Read(cut, end) = read_number(line, fourth) else {
-        return Line::Unreadable;
-    };
-    if end < line.len() {
-        return Line::Unreadable;
-    }
-    Line::Split {
-        peer,
-        first,
-        length,
-        at: cut,
-    }
+    line_of(Name::Recv, numbers, messages)
 }
 
 // Reads the arguments of a call.
@@ -311,23 +154,14 @@ fn read_arguments(
     counters: &mut [u64],
     kinds: &mut [u8],
 ) -> Line {
-    match name {
-        Name::Unknown => Line::Unreadable,
-        Name::New => read_new(line, at),
-        Name::Init => read_init(line, at),
-        Name::Restart => read_restart(line, at),
-        Name::Resp => read_resp(line, at),
-        Name::Hello => read_hello(line, at),
-        Name::Cookie => read_cookie(line, at),
-        Name::Send => read_send(line, at),
-        Name::Recv => read_recv(line, at, counters, kinds),
-        Name::Look => read_look(line, at),
-        Name::Wake => read_wake(line, at),
-        Name::Event => read_event(line, at),
-        Name::Next => read_next(line, at),
-        Name::Missing => read_missing(line, at),
-        Name::Split => read_split(line, at),
+    let numbers = read_numbers(line, at, numbers_of(name));
+    if !readable(numbers, indices_of(name)) {
+        return Line::Unreadable;
     }
+    if let Name::Recv = name {
+        return read_recv(numbers, line, counters, kinds);
+    }
+    whole_line(name, numbers, line)
 }
 
 // Reads a line. The messages of a batch go into the lists.

@@ -16,12 +16,6 @@ pub enum Field {
     Read(u64, usize),
 }
 
-// A field that is a 32-bit index, and the position after it.
-pub enum IndexField {
-    NoIndex,
-    Index(u32, usize),
-}
-
 // Whether a byte separates words.
 fn is_space(byte: u8) -> bool {
     match byte {
@@ -123,15 +117,4 @@ pub fn read_number(line: &[u8], at: usize) -> Field {
         return Field::Unread;
     };
     Field::Read(value, skip_spaces(line, end))
-}
-
-// Reads the index at a position.
-pub fn read_index(line: &[u8], at: usize) -> IndexField {
-    let Field::Read(value, next) = read_number(line, at) else {
-        return IndexField::NoIndex;
-    };
-    if value > 4294967295 {
-        return IndexField::NoIndex;
-    }
-    IndexField::Index((value % 4294967296) as u32, next)
 }

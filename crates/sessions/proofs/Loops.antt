@@ -1,10 +1,10 @@
 -- The loops over the slots and over a store's words: where each begins, a turn, and where it ends.
 -- Assumes nothing.
 use mathlib.Core.Path.{_≡_, refl, ap, sym, _∙_}
-use mathlib.Core.Bool.{true, false}
+use mathlib.Core.Bool.{Bool, true, false}
 use mathlib.Core.List.{List, map}
-use Prim.Native.Nat.{ℕ, suc, _+_, _-_, _*_, _^_, _≤_, _<_}
-use native.Mathlib.Nat.{add-assoc, add-zero}
+use Prim.Native.Nat.{ℕ, zero, suc, _+_, _-_, _*_, _^_, _≤_, _<_}
+use native.Mathlib.Nat.{add-assoc, add-zero, zero-add, suc-add}
 use native.Mathlib.Numerals.{add-one}
 use native.Mathlib.Omega.{arith}
 use lib.Count.{ones, ones-le}
@@ -18,9 +18,9 @@ use Rattle.sessions.specs.declared.session.Time.the-variants.{Never}
 use Rattle.sessions.specs.declared.sessions.Found.the-variants.{Nothing}
 use Rattle.sessions.specs.declared.sessions.Sessions.{Sessions}
 use Rattle.sessions.specs.declared.sessions.Expired.{Expired}
-use Rattle.sessions.specs.Store.{onesOf, Counted, missingOf, Leaves}
+use Rattle.sessions.specs.Store.{whole, onesOf, Counted, missingOf, Leaves}
 use Rattle.sessions.specs.Session.{timeLimit, emptySession, earlier}
-use Rattle.sessions.specs.Sessions.{TimesWithin, slotAt, noneFilled, slotExpiry, firstExpiry, Expires, expireFirst, expire}
+use Rattle.sessions.specs.Sessions.{TimesWithin, slotAt, noneFilled, slotExpiry, firstExpiry, expiredSlot, firstUnexpired, noneExpired, Expiring, Expires, expireSlot, expireFirst, expire}
 
 -- the length of a list of records, read off a field's
 pub long : {A B : Type 0} (f : A → B) (l : List A) (n : ℕ) → length (map f l) ≡ n → length l ≡ n
@@ -53,6 +53,37 @@ module _ (slots : List Session) where
     unfolding noneFilled
     none-found h = sym (y .left ∙ rw (drop-of-length-le slots {i = i} (omega (arith, y .size))))
 
+-- a search for an expired session that has found none among the first slots
+either-false : (t : Bool) → choose t false false ≡ false
+unfolding choose
+either-false true = refl
+either-false false = refl
+
+module _ (s : Sessions) (now : ℕ) where
+  expired-stays : (more slot : ℕ) → firstUnexpired s slot now ≡ false → firstUnexpired s (more + slot) now ≡ false
+  unfolding firstUnexpired
+  expired-stays zero slot p = rw zero-add p
+  expired-stays (suc more) slot p = rw (suc-add, expired-stays more slot p) (either-false (expiredSlot s (more + slot) now))
+
+  pub unexpired-begins : firstUnexpired s 0 now ≡ true
+  unfolding firstUnexpired
+  unexpired-begins = refl
+
+  module _ (slot : ℕ) (flag : Bool) (f : flag ≡ expiredSlot s slot now) where
+    pub unexpired-more : flag ≡ false → firstUnexpired s slot now ≡ true → firstUnexpired s (slot + 1) now ≡ true
+    unfolding firstUnexpired choose
+    unexpired-more n u = rw (add-one, ← f, n) u
+
+    pub expired-found : flag ≡ true → slot < 8 → false ≡ firstUnexpired s 8 now
+    unfolding firstUnexpired choose
+    expired-found y h =
+        let next : firstUnexpired s (suc slot) now ≡ false = rw (← f, y) in
+        let all : 7 - slot + suc slot ≡ 8 = omega arith in
+        sym (ap (λ (x : ℕ). firstUnexpired s x now) (sym all) ∙ expired-stays (7 - slot) (suc slot) next)
+
+  pub unexpired-ends : (slot : ℕ) → slot ≤ 8 → 8 ≤ slot → firstUnexpired s slot now ≡ true → true ≡ firstUnexpired s 8 now
+  unexpired-ends slot h l u = let same : slot ≡ 8 = omega arith in sym u ∙ ap (λ (x : ℕ). firstUnexpired s x now) same
+
 -- the earliest expiry of one more slot
 module _ (s : Sessions) where
   pub slot-within : (slot : ℕ) → TimesWithin s → slot < 8 → slotAt s slot .filled ≡ true → slotAt s slot .«established_at» ≤ timeLimit
@@ -78,7 +109,7 @@ pub record Ones (words : List ℕ) (i sum : ℕ) : Type 0 where
 
 module _ (words : List ℕ) where
   pub ones-begin : Ones words 0 0
-  ones-begin = record { within = omega arith; bound = omega arith; left = native.Mathlib.Nat.zero-add (onesOf words) }
+  ones-begin = record { within = omega arith; bound = omega arith; left = zero-add (onesOf words) }
 
   module _ (i sum : ℕ) (o : Ones words i sum) where
     pub ones-more : (n : ℕ) → i < length words → n ≡ ones (getD words i 0) → n ≤ 64 → Ones words (i + 1) (sum + n)
@@ -139,3 +170,32 @@ unfolding expire choose
 gone-ends s store time slot e left g l h =
     let same : slot ≡ 8 = omega (arith, g .within) in
     rw (eq-eqb (length store) 1024 l) (record { out = rw (← same) (g .out); words = rw (← same) (g .words) })
+
+-- an expiry where no session is expired leaves all as it was
+passed-over : (t u : Bool) → choose t false u ≡ true → (t ≡ false) × (u ≡ true)
+unfolding choose
+passed-over true u p = let z : _≡_ {A = ℕ} 0 1 = cc in absurd (omega arith)
+passed-over false u p = (refl, p)
+
+same-choice : {A : Type 0} (t : Bool) (x : A) → choose t x x ≡ x
+unfolding choose
+same-choice true x = refl
+same-choice false x = refl
+
+module _ (s : Sessions) (now : ℕ) where
+  slot-stays : (e : Expiring) (slot : ℕ) → e .expired .sessions ≡ s → expiredSlot s slot now ≡ false → expireSlot e slot now ≡ e
+  unfolding expireSlot choose
+  slot-stays e slot same p = rw (same, p)
+
+  slots-stay : (e : Expiring) (count : ℕ) → e .expired .sessions ≡ s → firstUnexpired s count now ≡ true → expireFirst e count now ≡ e
+  unfolding expireFirst firstUnexpired
+  slots-stay e zero same p = refl
+  slots-stay e (suc count) same p =
+      let n = passed-over (expiredSlot s count now) (firstUnexpired s count now) p in
+      rw (slots-stay e count same (n .1)) (slot-stays e count same (n .0))
+
+  pub expire-none : (store : List ℕ) → noneExpired s now ≡ true
+      → expire s store now ≡ record { expired = record { sessions = s; current = Nothing }; store = store }
+  unfolding expire
+  expire-none store p =
+      rw (slots-stay (record { expired = record { sessions = s; current = Nothing }; store = store }) 8 refl p) (same-choice (whole store) _)

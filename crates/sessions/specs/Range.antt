@@ -8,13 +8,6 @@ use Rattle.sessions.specs.declared.range.Range.{Range}
 use Rattle.sessions.specs.declared.range.Split.{Split}
 use Rattle.sessions.specs.declared.range.Split.the-variants.{Invalid, Whole, Parts}
 
--- one value for a call turned down, one for a range kept whole, one for each two parts
-module _ {A : Type 0} where
-  unfoldable pub caseSplit : Split → A → A → (Range → Range → A) → A
-  caseSplit Invalid x y f = x
-  caseSplit Whole x y f = y
-  caseSplit (Parts first rest) x y f = f first rest
-
 -- a range
 abbrev pub range : (peer first length : ℕ) → Range
 range peer first length = record { peer = peer; first = first; length = length }

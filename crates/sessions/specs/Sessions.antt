@@ -157,6 +157,15 @@ emptied s slot = withSlots s (set (s .slots) slot emptySession)
 unfoldable pub expiredSlot : Sessions → ℕ → ℕ → Bool
 expiredSlot s slot now = choose (slotAt s slot .filled) (expiredAt (slotAt s slot) now) false
 
+-- whether none of the first slots' sessions is expired
+unfoldable pub firstUnexpired : Sessions → (count now : ℕ) → Bool
+firstUnexpired s zero now = true
+firstUnexpired s (suc count) now = choose (expiredSlot s count now) false (firstUnexpired s count now)
+
+-- whether no session is expired
+abbrev pub noneExpired : Sessions → ℕ → Bool
+noneExpired s now = firstUnexpired s 8 now
+
 -- an expiry under way, and the store
 pub record Expiring : Type 0 where
   pub expired : Expired

@@ -11,7 +11,7 @@ ghost use mathlib.Core.Path.{_≡_};
 ghost use Prim.Native.Nat.{_<_};
 ghost use lib.ListN.{length};
 ghost use Rattle.sessions.specs.Store.{Leaves};
-ghost use Rattle.sessions.specs.Sessions.{TimesWithin, newSessions, inSlotOf, get, put, currentOf, inCurrentSlot, nextIndex, insert, usable, sendingSession, isIndex, select, setCurrent, clear, emptied, expiredSlot, discard, Expires, expire, isEmpty, slotExpiry, nextExpiry, missing};
+ghost use Rattle.sessions.specs.Sessions.{TimesWithin, newSessions, inSlotOf, get, put, currentOf, inCurrentSlot, nextIndex, insert, usable, sendingSession, isIndex, select, setCurrent, clear, emptied, expiredSlot, noneExpired, discard, Expires, expire, isEmpty, slotExpiry, nextExpiry, missing};
 
 // What a lookup answers.
 pub enum Found {
@@ -299,6 +299,20 @@ impl Sessions {
         while slot < 8 {
             let session = self.slots[slot];
             if session.filled {
+                return false;
+            }
+            slot = slot + 1;
+        }
+        true
+    }
+
+    // Whether no session is past `REJECT_AFTER_TIME`.
+    pub fn none_expired(self, now: u64) -> bool
+        ensures { λ r. ⌜ r ≡ noneExpired self now ⌝ }
+    {
+        let mut slot = 0;
+        while slot < 8 {
+            if self.expired_slot(slot, now) {
                 return false;
             }
             slot = slot + 1;

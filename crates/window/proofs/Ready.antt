@@ -14,7 +14,7 @@ use borrow.Author.Tests.{eqb-true, le-ltb, ltb-false}
 use Rattle.base.specs.Choice.{choose}
 use Rattle.base.proofs.Choice.{picks, yes-le, no-le}
 use Rattle.base.proofs.Zeros.{zeros-at}
-use Rattle.window.specs.Window.{limit, setBit, clears, empty, advance, isInvalid, willAccept, nextAfter, wordsAfter}
+use Rattle.window.specs.Window.{limit, setBit, clears, empty, advance, isInvalid, willAccept, wordsAfter}
 use Rattle.window.proofs.Words.{Fitting, length-setBit, length-clears, clears-fits}
 
 pub empty-fits : Fitting empty
@@ -113,12 +113,3 @@ module _ (words : List ℕ) (next c : ℕ) where
       go true e =
           let long : length words ≡ 128 = zero-long (eqb-true (willAccept words next c) 0 e) in
           rw e (length-setBit (advance words next c) c ∙ length-advance long ∙ sym long)
-
-  -- a commit keeps the next expected counter at most LIMIT
-  pub nextAfter-limit : next ≤ limit → nextAfter words next c ≤ limit
-  unfolding nextAfter choose
-  nextAfter-limit h = go (eqb (willAccept words next c) 0) refl
-    where
-      go : (b : Bool) → eqb (willAccept words next c) 0 ≡ b → nextAfter words next c ≤ limit
-      go false e = rw e h
-      go true e = rw e (omega (arith, valid-only next c (zero-valid (eqb-true (willAccept words next c) 0 e) (isInvalid next c) refl) .0))

@@ -32,6 +32,9 @@ loop-less c = search needs
 loop-again : tie.Need-loop-again Inv-loop μ-loop
 loop-again c = search needs
 
+wakes-requires : tie.Need-wakes-requires Inv-loop μ-loop
+wakes-requires c κs = search needs
+
 same-length : tie.Need-same-length Inv-loop μ-loop
 same-length c = search needs
 
@@ -50,5 +53,6 @@ filled-spec =
     add-i
     loop-less
     loop-again
+    wakes-requires
     same-length
     returns)

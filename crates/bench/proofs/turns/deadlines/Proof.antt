@@ -4,11 +4,11 @@ use Rattle.bench.proofs.turns.deadlines.Statement.{statement}
 use Rattle.bench.proofs.turns.deadlines.Tie as tie
 
 abbrev Inv-loop : tie.InvT-loop
-Inv-loop turns tunnel₀ sum₀ i₀ tunnel sum i =
+Inv-loop tunnel₀ turns sum₀ i₀ tunnel sum i =
     i ≤ turns
 
 abbrev μ-loop : tie.MeasureT-loop
-μ-loop turns tunnel₀ sum₀ i₀ tunnel sum i =
+μ-loop tunnel₀ turns sum₀ i₀ tunnel sum i =
     turns - i
 
 loop-holds : tie.Need-loop-holds Inv-loop μ-loop

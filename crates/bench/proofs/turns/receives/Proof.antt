@@ -6,21 +6,18 @@ use Rattle.bench.proofs.turns.receives.Statement.{statement}
 use Rattle.bench.proofs.turns.receives.Tie as tie
 
 abbrev Inv-loop : tie.InvT-loop
-Inv-loop store₀ counters kinds verdicts₀ turns tunnel₀ now₀ start₀ i₀ store verdicts tunnel now start i =
-    (i ≤ turns) × (length store ≡ length store₀) × (length verdicts ≡ length verdicts₀)
+Inv-loop tunnel₀ store₀ counters kinds verdicts₀ turns now₀ start₀ i₀ tunnel store verdicts now start i =
+    (i ≤ turns) × (start ≤ length counters) × (length store ≡ length store₀) × (length verdicts ≡ length verdicts₀)
 
 abbrev μ-loop : tie.MeasureT-loop
-μ-loop store₀ counters kinds verdicts₀ turns tunnel₀ now₀ start₀ i₀ store verdicts tunnel now start i =
+μ-loop tunnel₀ store₀ counters kinds verdicts₀ turns now₀ start₀ i₀ tunnel store verdicts now start i =
     turns - i
 
 loop-holds : tie.Need-loop-holds Inv-loop μ-loop
 loop-holds c = search needs
 
-add-i : tie.Need-add-i Inv-loop μ-loop
-add-i c = search needs
-
-wrapping-add-usize-requires : tie.Need-wrapping-add-usize-requires Inv-loop μ-loop
-wrapping-add-usize-requires c κs = search needs
+sub-if1 : tie.Need-sub-if1 Inv-loop μ-loop
+sub-if1 c = search needs
 
 same-length : tie.Need-same-length Inv-loop μ-loop
 same-length c = search needs
@@ -31,17 +28,14 @@ same-length-2 c = search needs
 returns : tie.Need-returns Inv-loop μ-loop
 returns c = search needs
 
-same-length-3 : tie.Need-same-length-3 Inv-loop μ-loop
-same-length-3 c = search needs
-
-same-length-4 : tie.Need-same-length-4 Inv-loop μ-loop
-same-length-4 c = search needs
-
-returns-2 : tie.Need-returns-2 Inv-loop μ-loop
-returns-2 c = search needs
+add-end : tie.Need-add-end Inv-loop μ-loop
+add-end c = search needs
 
 mul-receive : tie.Need-mul-receive Inv-loop μ-loop
 mul-receive c = search needs
+
+sub-receive : tie.Need-sub-receive Inv-loop μ-loop
+sub-receive c = search needs
 
 part-receive-start : tie.Need-part-receive-start Inv-loop μ-loop
 part-receive-start c = search needs
@@ -55,20 +49,23 @@ receive-requires c κs = search needs
 wrapping-add-u64-requires : tie.Need-wrapping-add-u64-requires Inv-loop μ-loop
 wrapping-add-u64-requires c κs = search needs
 
+add-i : tie.Need-add-i Inv-loop μ-loop
+add-i c = search needs
+
 loop-less : tie.Need-loop-less Inv-loop μ-loop
 loop-less c = search needs
 
 loop-again : tie.Need-loop-again Inv-loop μ-loop
 loop-again c = search needs
 
-same-length-5 : tie.Need-same-length-5 Inv-loop μ-loop
-same-length-5 c = search needs
+same-length-3 : tie.Need-same-length-3 Inv-loop μ-loop
+same-length-3 c = search needs
 
-same-length-6 : tie.Need-same-length-6 Inv-loop μ-loop
-same-length-6 c = search needs
+same-length-4 : tie.Need-same-length-4 Inv-loop μ-loop
+same-length-4 c = search needs
 
-returns-3 : tie.Need-returns-3 Inv-loop μ-loop
-returns-3 c = search needs
+returns-2 : tie.Need-returns-2 Inv-loop μ-loop
+returns-2 c = search needs
 
 pub receives-spec : {M : Type 1} → statement M
 receives-spec =
@@ -77,21 +74,20 @@ receives-spec =
     Inv-loop
     μ-loop
     loop-holds
-    add-i
-    wrapping-add-usize-requires
+    sub-if1
     same-length
     same-length-2
     returns
-    same-length-3
-    same-length-4
-    returns-2
+    add-end
     mul-receive
+    sub-receive
     part-receive-start
     part-receive-end
     receive-requires
     wrapping-add-u64-requires
+    add-i
     loop-less
     loop-again
-    same-length-5
-    same-length-6
-    returns-3)
+    same-length-3
+    same-length-4
+    returns-2)

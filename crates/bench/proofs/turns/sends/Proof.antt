@@ -4,11 +4,11 @@ use Rattle.bench.proofs.turns.sends.Statement.{statement}
 use Rattle.bench.proofs.turns.sends.Tie as tie
 
 abbrev Inv-loop : tie.InvT-loop
-Inv-loop turns tunnel₀ now₀ i₀ tunnel now i =
+Inv-loop tunnel₀ turns now₀ i₀ tunnel now i =
     i ≤ turns
 
 abbrev μ-loop : tie.MeasureT-loop
-μ-loop turns tunnel₀ now₀ i₀ tunnel now i =
+μ-loop tunnel₀ turns now₀ i₀ tunnel now i =
     turns - i
 
 loop-holds : tie.Need-loop-holds Inv-loop μ-loop

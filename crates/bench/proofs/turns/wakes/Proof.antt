@@ -6,11 +6,11 @@ use Rattle.bench.proofs.turns.wakes.Statement.{statement}
 use Rattle.bench.proofs.turns.wakes.Tie as tie
 
 abbrev Inv-loop : tie.InvT-loop
-Inv-loop store₀ step turns tunnel₀ now₀ i₀ store tunnel now i =
+Inv-loop tunnel₀ store₀ step turns now₀ i₀ tunnel store now i =
     (i ≤ turns) × (length store ≡ length store₀)
 
 abbrev μ-loop : tie.MeasureT-loop
-μ-loop store₀ step turns tunnel₀ now₀ i₀ store tunnel now i =
+μ-loop tunnel₀ store₀ step turns now₀ i₀ tunnel store now i =
     turns - i
 
 loop-holds : tie.Need-loop-holds Inv-loop μ-loop

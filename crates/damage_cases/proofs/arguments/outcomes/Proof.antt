@@ -4,16 +4,18 @@ use Rattle.damage_cases.proofs.arguments.outcomes.Statement.{statement}
 use Rattle.damage_cases.proofs.arguments.outcomes.Tie as tie
 
 abbrev Inv-loop : tie.InvT-loop
-Inv-loop tunnel tally₀ outcome₀ tally outcome = outcome ≤ 17
+Inv-loop tally₀ outcome₀ tally outcome =
+    outcome ≤ 17
 
 abbrev μ-loop : tie.MeasureT-loop
-μ-loop tunnel tally₀ outcome₀ tally outcome = 17 - outcome
+μ-loop tally₀ outcome₀ tally outcome =
+    17 - outcome
 
-three-messages-requires : tie.Need-three-messages-requires Inv-loop μ-loop
-three-messages-requires c κs = tt
+outcome-cases-requires : tie.Need-outcome-cases-requires Inv-loop μ-loop
+outcome-cases-requires c κs = tt
 
-three-messages-requires-2 : tie.Need-three-messages-requires-2 Inv-loop μ-loop
-three-messages-requires-2 c κs = tt
+outcome-cases-requires-2 : tie.Need-outcome-cases-requires-2 Inv-loop μ-loop
+outcome-cases-requires-2 c κs = tt
 
 plus-requires : tie.Need-plus-requires Inv-loop μ-loop
 plus-requires c κs = tt
@@ -21,8 +23,8 @@ plus-requires c κs = tt
 loop-holds : tie.Need-loop-holds Inv-loop μ-loop
 loop-holds c = search needs
 
-three-messages-requires-3 : tie.Need-three-messages-requires-3 Inv-loop μ-loop
-three-messages-requires-3 c κs = tt
+outcome-cases-requires-3 : tie.Need-outcome-cases-requires-3 Inv-loop μ-loop
+outcome-cases-requires-3 c κs = tt
 
 plus-requires-2 : tie.Need-plus-requires-2 Inv-loop μ-loop
 plus-requires-2 c κs = tt
@@ -45,11 +47,11 @@ outcomes-spec =
     (tie.spec
     Inv-loop
     μ-loop
-    three-messages-requires
-    three-messages-requires-2
+    outcome-cases-requires
+    outcome-cases-requires-2
     plus-requires
     loop-holds
-    three-messages-requires-3
+    outcome-cases-requires-3
     plus-requires-2
     add-outcome
     loop-less

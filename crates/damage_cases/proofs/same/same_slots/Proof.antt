@@ -4,10 +4,12 @@ use Rattle.damage_cases.proofs.same.same_slots.Statement.{statement}
 use Rattle.damage_cases.proofs.same.same_slots.Tie as tie
 
 abbrev Inv-loop : tie.InvT-loop
-Inv-loop a b slot₀ slot = slot ≤ 8
+Inv-loop a b slot₀ slot =
+    slot ≤ 8
 
 abbrev μ-loop : tie.MeasureT-loop
-μ-loop a b slot₀ slot = 8 - slot
+μ-loop a b slot₀ slot =
+    8 - slot
 
 loop-holds : tie.Need-loop-holds Inv-loop μ-loop
 loop-holds c = search needs

@@ -6,11 +6,11 @@ use Rattle.bench.proofs.day.Day.bursts.Statement.{statement}
 use Rattle.bench.proofs.day.Day.bursts.Tie as tie
 
 abbrev Inv-loop : tie.InvT-loop
-Inv-loop store₀ counters kinds verdicts₀ day₀ start₀ store verdicts day start =
+Inv-loop self₀ store₀ counters kinds verdicts₀ start₀ self store verdicts start =
     (start ≤ 832) × (length store ≡ length store₀) × (length verdicts ≡ length verdicts₀)
 
 abbrev μ-loop : tie.MeasureT-loop
-μ-loop store₀ counters kinds verdicts₀ day₀ start₀ store verdicts day start =
+μ-loop self₀ store₀ counters kinds verdicts₀ start₀ self store verdicts start =
     832 - start
 
 loop-holds : tie.Need-loop-holds Inv-loop μ-loop

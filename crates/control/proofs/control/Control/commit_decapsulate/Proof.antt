@@ -12,8 +12,11 @@ refuse-requires c κs = search needs
 returns : tie.Need-returns
 returns c = search (way-batch-expired, needs)
 
-commit-requires : tie.Need-commit-requires
-commit-requires c κs = search needs
+receive-requires : tie.Need-receive-requires
+receive-requires c κs = search needs
+
+committed-requires : tie.Need-committed-requires
+committed-requires c κs = search needs
 
 same-length : tie.Need-same-length
 same-length c = search needs
@@ -25,10 +28,14 @@ returns-2 : tie.Need-returns-2
 returns-2 c = search (way-batch, needs)
 
 pub commit-decapsulate-spec : {M : Type 1} → statement M
-commit-decapsulate-spec = tie.close (tie.spec is-expired-requires
+commit-decapsulate-spec =
+    tie.close
+    (tie.spec
+    is-expired-requires
     refuse-requires
     returns
-    commit-requires
+    receive-requires
+    committed-requires
     same-length
     same-length-2
     returns-2)

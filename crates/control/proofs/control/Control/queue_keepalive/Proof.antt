@@ -1,34 +1,57 @@
-use Rattle.control.proofs.Steps.{keepalive-ring}
-use Rattle.control.proofs.Woken.{skipped, sent}
+use Rattle.control.proofs.Woken.{queued-none, queued-few, queued-one}
 use borrow.Author.Needs.{needs}
 use Rattle.control.proofs.control.Control.queue_keepalive.Statement.{statement}
 use Rattle.control.proofs.control.Control.queue_keepalive.Tie as tie
 
-encrypt-keepalive-requires : tie.Need-encrypt-keepalive-requires
-encrypt-keepalive-requires c κs = search needs
+sending-session-requires : tie.Need-sending-session-requires
+sending-session-requires c κs = search needs
+
+enum-known-session : tie.Need-enum-known-session
+enum-known-session c = search needs
 
 enum-told : tie.Need-enum-told
 enum-told c = search needs
 
 returns : tie.Need-returns
-returns c = search (skipped, needs)
+returns c = search (queued-none, needs)
 
-enum-known-keepalive : tie.Need-enum-known-keepalive
-enum-known-keepalive c = search needs
+reserve-counters-requires : tie.Need-reserve-counters-requires
+reserve-counters-requires c κs = search needs
 
-push-back-requires : tie.Need-push-back-requires
-push-back-requires c κs = search (keepalive-ring, needs)
+enum-known-counter : tie.Need-enum-known-counter
+enum-known-counter c = search needs
+
+enum-told-2 : tie.Need-enum-told-2
+enum-told-2 c = search needs
 
 returns-2 : tie.Need-returns-2
-returns-2 c = search (sent, needs)
+returns-2 c = search (queued-few, needs)
+
+put-requires : tie.Need-put-requires
+put-requires c κs = search needs
+
+tick-last-packet-sent-requires : tie.Need-tick-last-packet-sent-requires
+tick-last-packet-sent-requires c κs = search needs
+
+push-back-requires : tie.Need-push-back-requires
+push-back-requires c κs = search needs
+
+returns-3 : tie.Need-returns-3
+returns-3 c = search (queued-one, needs)
 
 pub queue-keepalive-spec : {M : Type 1} → statement M
 queue-keepalive-spec =
     tie.close
     (tie.spec
-    encrypt-keepalive-requires
+    sending-session-requires
+    enum-known-session
     enum-told
     returns
-    enum-known-keepalive
+    reserve-counters-requires
+    enum-known-counter
+    enum-told-2
+    returns-2
+    put-requires
+    tick-last-packet-sent-requires
     push-back-requires
-    returns-2)
+    returns-3)

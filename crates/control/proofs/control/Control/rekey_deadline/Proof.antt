@@ -1,11 +1,12 @@
 use Rattle.control.specs.Deadlines.{responseDeadline}
+use Rattle.control.proofs.Later.{current-known}
 use Rattle.control.proofs.Chains.{chain-rekey}
 use borrow.Author.Needs.{needs}
 use Rattle.control.proofs.control.Control.rekey_deadline.Statement.{statement}
 use Rattle.control.proofs.control.Control.rekey_deadline.Tie as tie
 
 rekey-after-time-on-send-requires : tie.Need-rekey-after-time-on-send-requires
-rekey-after-time-on-send-requires c κs = search needs
+rekey-after-time-on-send-requires c κs = search (current-known, needs)
 
 rekey-after-messages-requires : tie.Need-rekey-after-messages-requires
 rekey-after-messages-requires c κs = search needs
@@ -14,7 +15,7 @@ earlier-requires : tie.Need-earlier-requires
 earlier-requires c κs = search needs
 
 reject-after-time-on-receive-requires : tie.Need-reject-after-time-on-receive-requires
-reject-after-time-on-receive-requires c κs = search needs
+reject-after-time-on-receive-requires c κs = search (current-known, needs)
 
 rekey-after-time-without-response-requires : tie.Need-rekey-after-time-without-response-requires
 rekey-after-time-without-response-requires c κs = search needs
@@ -30,7 +31,9 @@ unfolding responseDeadline
 returns c = search (chain-rekey, needs)
 
 pub rekey-deadline-spec : {M : Type 1} → statement M
-rekey-deadline-spec = tie.close (tie.spec rekey-after-time-on-send-requires
+rekey-deadline-spec =
+    tie.close
+    (tie.spec rekey-after-time-on-send-requires
     rekey-after-messages-requires
     earlier-requires
     reject-after-time-on-receive-requires

@@ -1,11 +1,15 @@
 use Rattle.control.specs.Deadlines.{responseDeadline}
+use Rattle.control.proofs.Later.{current-known}
 use Rattle.control.proofs.Woken.{rekey-first, rekey-second, rekey-third, rekey-fourth}
 use borrow.Author.Needs.{needs}
 use Rattle.control.proofs.control.Control.rekey_due.Statement.{statement}
 use Rattle.control.proofs.control.Control.rekey_due.Tie as tie
 
+current-requires : tie.Need-current-requires
+current-requires c κs = search needs
+
 rekey-after-time-on-send-requires : tie.Need-rekey-after-time-on-send-requires
-rekey-after-time-on-send-requires c κs = search needs
+rekey-after-time-on-send-requires c κs = search (current-known, needs)
 
 due-by-requires : tie.Need-due-by-requires
 due-by-requires c κs = search needs
@@ -25,7 +29,7 @@ unfolding responseDeadline
 returns-2 c = search (rekey-second, needs)
 
 reject-after-time-on-receive-requires : tie.Need-reject-after-time-on-receive-requires
-reject-after-time-on-receive-requires c κs = search needs
+reject-after-time-on-receive-requires c κs = search (current-known, needs)
 
 due-by-requires-3 : tie.Need-due-by-requires-3
 due-by-requires-3 c κs = search needs
@@ -45,7 +49,11 @@ unfolding responseDeadline
 returns-4 c = search (rekey-fourth, needs)
 
 pub rekey-due-spec : {M : Type 1} → statement M
-rekey-due-spec = tie.close (tie.spec rekey-after-time-on-send-requires
+rekey-due-spec =
+    tie.close
+    (tie.spec
+    current-requires
+    rekey-after-time-on-send-requires
     due-by-requires
     returns
     rekey-after-messages-requires

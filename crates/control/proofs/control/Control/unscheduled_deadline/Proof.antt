@@ -13,6 +13,9 @@ handshake-rekey-timeout-requires c κs = search needs
 enum-told : tie.Need-enum-told
 enum-told c = search needs
 
+current-requires : tie.Need-current-requires
+current-requires c κs = search needs
+
 rekey-deadline-requires : tie.Need-rekey-deadline-requires
 rekey-deadline-requires c κs = search needs
 
@@ -49,6 +52,7 @@ pub unscheduled-deadline-spec : {M : Type 1} → statement M
 unscheduled-deadline-spec = tie.close (tie.spec common-deadline-requires
     handshake-rekey-timeout-requires
     enum-told
+    current-requires
     rekey-deadline-requires
     keepalive-deadline-requires
     earlier-requires

@@ -1,0 +1,28 @@
+use Rattle.control.proofs.Later.{found-established}
+use Rattle.sessions.proofs.Cases.{cases}
+use Rattle.control.specs.Deadlines.{foundOnReceive}
+use borrow.Author.Needs.{needs}
+use Rattle.control.proofs.deadlines.reject_after_time_on_receive.Statement.{statement}
+use Rattle.control.proofs.deadlines.reject_after_time_on_receive.Tie as tie
+
+enum-known-found : tie.Need-enum-known-found
+enum-known-found c = search needs
+
+enum-told : tie.Need-enum-told
+enum-told c = search needs
+
+returns : tie.Need-returns
+unfolding foundOnReceive
+returns c = search (cases, needs)
+
+reject-after-time-on-receive-requires : tie.Need-reject-after-time-on-receive-requires
+reject-after-time-on-receive-requires c κs = search (found-established, needs)
+
+returns-2 : tie.Need-returns-2
+unfolding foundOnReceive
+returns-2 c = search (cases, needs)
+
+pub reject-after-time-on-receive-spec : {M : Type 1} → statement M
+reject-after-time-on-receive-spec =
+    tie.close
+    (tie.spec enum-known-found enum-told returns reject-after-time-on-receive-requires returns-2)
