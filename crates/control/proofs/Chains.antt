@@ -3,14 +3,13 @@
 use mathlib.Core.Path.{_≡_, _∙_}
 use mathlib.Core.Bool.{false}
 use Prim.Native.Nat.{ℕ, _+_}
-use Rattle.control.specs.Control.{control, withTimers, withEvents, outcome, newControl, queueing, pollEvent}
+use Rattle.control.specs.Control.{control, withEvents, outcome, newControl, queueing, pollEvent}
 use Rattle.control.specs.Deadlines.{earliestExpiry, cookieDeadline, rejectDeadline, handshakeRekeyTimeout, foundOnSend, foundAfterMessages, foundOnReceive, rekeyOnSend, rekeyAfterMessages, rekeyOnReceive, responseDeadline, passiveDeadline, currentPersistentDeadline, commonDeadline, rekeyDeadline, keepaliveDeadline}
-use Rattle.control.specs.Waking.{scheduling}
 use Rattle.control.specs.declared.answer.Answer.the-variants.{Polled}
 use Rattle.control.specs.declared.control.Control.{Control}
 use Rattle.parts.specs.Handshake.{newHandshake, inFlightInitiation}
 use Rattle.parts.specs.RingBuffer.{newRing, pushBack, popFront}
-use Rattle.parts.specs.Timers.{newTimers, rekeyTimeoutOf, scheduleHandshake}
+use Rattle.parts.specs.Timers.{newTimers, rekeyTimeoutOf}
 use Rattle.parts.specs.declared.event.Event.{Event}
 use Rattle.parts.specs.declared.handshake.Handshake.{Handshake}
 use Rattle.parts.specs.declared.ring_buffer.Popped.{Popped}
@@ -40,11 +39,6 @@ module _ (c : Control) where
       → outcome (withEvents c (popped .events)) (Polled (popped .event)) false false ≡ pollEvent c
   unfolding pollEvent
   chain-polled popped p = rw p
-
-  -- a handshake scheduled
-  pub chain-scheduled : (jitter now : ℕ) (t : Timers) → t ≡ scheduleHandshake (c .timers) (now + jitter) → withTimers c t ≡ scheduling c jitter now
-  unfolding scheduling
-  chain-scheduled jitter now t p = rw p
 
   -- deadlines
   pub chain-retry : (a r : Time) → a ≡ inFlightInitiation (c .handshake) → r ≡ rekeyTimeoutOf a → r ≡ handshakeRekeyTimeout c

@@ -5,13 +5,10 @@ pub mod Kept
 pub mod Later
 pub mod MessagesWays
 pub mod Opened
-pub mod Quiet
 pub mod Responses
 pub mod SoundOperations
+pub mod SoundSending
 pub mod SoundSteps
-pub mod SoundWaking
 pub mod Steps
 pub mod Stores
 pub mod TransportWays
-pub mod Wakings
-pub mod Woken

@@ -9,14 +9,13 @@ use lib.ListN.{length}
 use Rattle.control.proofs.Kept.{get-or-within, on-sent, on-received, on-data-sent, on-data-received, on-response, on-done, on-append, on-both-none, on-cookie, on-pop}
 use Rattle.control.proofs.Opened.{known-completed, known-cookie, initiation-opened, response-opened, cookie-stored}
 use Rattle.control.proofs.Responses.{response-good}
+use Rattle.control.proofs.SoundSending.{sound-encrypted, sound-initiated}
 use Rattle.control.proofs.SoundSteps.{known-found, known-reserved, SoundControl, OwnSlot, counted-within, new-within, sending-within, put-sound, insert-sound, current-sound, index-sound, sound-later, its-sessions, sound-timers, sound-handshake, sound-sessions, sound-queued, SoundReceived, receive-sound}
-use Rattle.control.proofs.SoundWaking.{sound-encrypted, sound-initiated, sound-wake}
 use Rattle.control.proofs.Steps.{of-choice, of-found}
 use Rattle.control.specs.Control.{Turn, withEvents, withEstablished, withHandshake, withSessions, outcome, refuse, done, pollEvent, missingReport}
 use Rattle.control.specs.Facts.{EventWithin}
 use Rattle.control.specs.Messages.{responding, respond, handleHandshakeInitiation, confirming, handleHandshakeResponse, handleCookieReply, restartHandshake, startHandshake}
 use Rattle.control.specs.Transport.{Batched, beginEncapsulate, finishEncapsulate, grant, send, confirmFirstSession, selecting, accept, batched, committed, commitDecapsulate, beginDecapsulate}
-use Rattle.control.specs.Waking.{handleTimeout}
 use Rattle.control.specs.declared.answer.Answer.{Answer}
 use Rattle.control.specs.declared.control.Control.{Control}
 use Rattle.control.specs.declared.control.Out.{Out}
@@ -70,10 +69,10 @@ module _ (old now : ℕ) where
   refuse-sound : (c : Control) (number : ℕ) → SoundControl c old → SoundOut (refuse c number) old now
   refuse-sound c number w = staying _ (refusing old c number w)
 
-  raising : (c : Control) (answer : Answer) (updates : Bool) → SoundControl c now → SoundOut (outcome c answer true updates) old now
+  pub raising : (c : Control) (answer : Answer) (updates : Bool) → SoundControl c now → SoundOut (outcome c answer true updates) old now
   raising c answer updates w = record { raised = λ e. w; still = λ e. absurd (true≢false e); ticked = λ e. refl }
 
-  done-sound : (c : Control) (answer : Answer) → SoundControl c now → SoundOut (done c answer) old now
+  pub done-sound : (c : Control) (answer : Answer) → SoundControl c now → SoundOut (done c answer) old now
   unfolding done
   done-sound c answer w = raising c answer false w
 
@@ -239,12 +238,6 @@ module _ (old now : ℕ) (l : old ≤ now) (c : Control) (w : SoundControl c old
       (done-sound old now _ _ (sound-encrypted now now same _ (sound-confirming now now same _ receiver
       (sound-sessions _ now (sound-handshake c now later _ (on-both-none (c .handshake) now (later .within .handshake))) _
       (insert-sound now (c .sessions) store _ (its-sessions c now later) (new-within now receiver peer now _ Initiator same))))))))
-
-  pub timeout-sound : (store : List ℕ) (jitter : ℕ) → jitter ≤ maxJitter → SoundOut (handleTimeout c store jitter now .out) old now
-  unfolding handleTimeout
-  timeout-sound store jitter j =
-      of-choice (λ (y : Turn). SoundOut (y .out) old now) _ _ _ (done-sound old now c _ later)
-      (raising old now _ _ true (sound-wake now now same jitter j c store later))
 
 -- an incoming initiation, whose index is used up even where it is turned down
 module _ (old now : ℕ) (l : old ≤ now) where

@@ -1,4 +1,4 @@
--- Every step of the waking keeps the facts of number 14, and the ring of events in range.
+-- Every step of the operations keeps the facts of number 14, and the ring of events in range.
 -- Assumes nothing.
 use mathlib.Core.Path.{_≡_, refl}
 use mathlib.Core.Bool.{Bool, true, false}
@@ -11,7 +11,6 @@ use Rattle.control.proofs.Kept.{on-push, on-clear-cookie}
 use Rattle.control.specs.Control.{withHandshake, withSessions, withTimers, queueing}
 use Rattle.control.specs.Facts.{SlotWithin, SessionsWithin, EventWithin, ControlWithin}
 use Rattle.control.specs.Messages.{initiate, initiating}
-use Rattle.control.specs.Waking.{clearAll}
 use Rattle.control.specs.declared.control.Control.{Control}
 use Rattle.control.specs.declared.messages.Initiated.{Initiated}
 use Rattle.parts.specs.Handshake.{HandshakeWithin, expireCookieOf}
@@ -141,12 +140,8 @@ module _ (c : Control) (most : ℕ) (w : ControlWithin c most) where
         events = on-push most (c .events) long (w .events) event v;
       }
 
--- the ring of events stays in range where a control is cleared or an initiation sent
+-- the ring of events stays in range where an initiation is sent
 module _ (c : Control) (now : ℕ) (r : RingWithin (c .events)) where
-  pub cleared-ring : (x : Control) (store left : List ℕ) → Leaves x (clearAll c store now .control) left (clearAll c store now .store) → RingWithin (x .events)
-  unfolding clearAll
-  cleared-ring x store left l = rw (l .out) r
-
   pub initiated-ring : (x : Initiated) → x ≡ initiate c now → RingWithin (x .control .events)
   unfolding initiate initiating
   initiated-ring x e = rw e r

@@ -7,11 +7,9 @@ use native.Mathlib.Omega.{arith}
 use lib.ListN.{length}
 use Rattle.control.proofs.Opened.{known-completed}
 use Rattle.control.proofs.Steps.{of-choice, of-found}
-use Rattle.control.proofs.Wakings.{WakingKeeps, of-wake}
 use Rattle.control.specs.Control.{Turn}
 use Rattle.control.specs.Messages.{respond, handleHandshakeInitiation, handleHandshakeResponse}
 use Rattle.control.specs.Transport.{Batched, commitDecapsulate}
-use Rattle.control.specs.Waking.{clearAll, expireControl, wake, handleTimeout}
 use Rattle.control.specs.declared.control.Control.{Control}
 use Rattle.sessions.proofs.Apart.{length-zeros, length-put}
 use Rattle.sessions.proofs.Received.{length-batch}
@@ -36,7 +34,7 @@ insert-whole : (s : Sessions) (store : List ℕ) (x : Session) → Whole store �
 unfolding insert
 insert-whole s store x l = of-choice (λ (y : Held). Whole (y .store)) _ _ _ (zeroed-whole store (x .«receiving_index» % 8) l (omega arith)) l
 
-clear-whole : (s : Sessions) (store : List ℕ) → Whole store → Whole (clear s store .store)
+pub clear-whole : (s : Sessions) (store : List ℕ) → Whole store → Whole (clear s store .store)
 unfolding clear
 clear-whole s store l = of-choice (λ (y : Held). Whole (y .store)) _ _ _ (length-zeros 1024) l
 
@@ -47,7 +45,7 @@ first-whole e (suc count) now h l =
     let m : Whole (expireFirst e count now .store) = first-whole e count now (omega arith) l in
     of-choice (λ (y : Expiring). Whole (y .store)) _ _ _ (zeroed-whole (expireFirst e count now .store) count m (omega arith)) m
 
-expire-whole : (s : Sessions) (store : List ℕ) (now : ℕ) → Whole store → Whole (expire s store now .store)
+pub expire-whole : (s : Sessions) (store : List ℕ) (now : ℕ) → Whole store → Whole (expire s store now .store)
 unfolding expire
 expire-whole s store now l = of-choice (λ (y : Expiring). Whole (y .store)) _ _ _ (first-whole _ 8 now (omega arith) l) l
 
@@ -66,25 +64,6 @@ module _ (s : Sessions) (store : List ℕ) (index id now : ℕ) (counters kinds 
   receive-whole =
       of-choice (λ (y : Outcome). Whole (y .store)) _ _ _ (of-choice (λ (y : Outcome). Whole (y .store)) _ _ _ commit-whole l) l
 
--- the waking
-ended-whole : (c : Control) (store : List ℕ) (now : ℕ) → Whole store → Whole (expireControl c store now .store)
-unfolding expireControl clearAll
-ended-whole c store now l = clear-whole (c .sessions) store l
-
-wake-whole : (c : Control) (store : List ℕ) (jitter now : ℕ) → Whole store → Whole (wake c store jitter now .store)
-wake-whole c store jitter now l = of-wake (λ (x : Control) (words : List ℕ). Whole words) jitter now steps c store l
-  where
-    steps : WakingKeeps (λ (x : Control) (words : List ℕ). Whole words) jitter now
-    steps =
-        record {
-          sends = λ x words m. m;
-          schedules = λ x words m. m;
-          keeps-alive = λ x words m. m;
-          drops = λ x words m. m;
-          ends = λ x words m. ended-whole x words now m;
-          expires = λ x words m. expire-whole (x .sessions) words now m;
-        }
-
 -- the operations
 module _ (c : Control) (store : List ℕ) (l : Whole store) where
   pub batch-store : (index id now : ℕ) (counters kinds verdicts : List ℕ) → Whole (commitDecapsulate c store index id now counters kinds verdicts .store)
@@ -102,10 +81,6 @@ module _ (c : Control) (store : List ℕ) (l : Whole store) where
   unfolding respond
   respond-store local peer outcome now =
       known-completed (λ (y : Turn). Whole (y .store)) _ _ _ (λ n. l) (λ h s p. insert-whole (c .sessions) store s l)
-
-  pub timeout-store : (jitter now : ℕ) → Whole (handleTimeout c store jitter now .store)
-  unfolding handleTimeout
-  timeout-store jitter now = of-choice (λ (y : Turn). Whole (y .store)) _ _ _ l (wake-whole c store jitter now l)
 
 pub initiation-store : (c : Control) (store : List ℕ) (peer outcome now : ℕ) → Whole store → Whole (handleHandshakeInitiation c store peer outcome now .store)
 unfolding handleHandshakeInitiation

@@ -4,6 +4,4 @@ pub mod Control
 pub mod Deadlines
 pub mod Facts
 pub mod Messages
-pub mod Quiet
 pub mod Transport
-pub mod Waking

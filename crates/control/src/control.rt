@@ -57,7 +57,7 @@ impl Control {
     }
 
     // A call that is answered.
-    pub(crate) fn done(self, answer: Answer) -> Out
+    pub fn done(self, answer: Answer) -> Out
         ensures { λ r. ⌜ r ≡ done self answer ⌝ }
     {
         Out {
@@ -69,14 +69,14 @@ impl Control {
     }
 
     // Whether the connection has expired.
-    pub(crate) fn is_expired(self) -> bool
+    pub fn is_expired(self) -> bool
         ensures { λ r. ⌜ r ≡ expiredControl self ⌝ }
     {
         self.handshake.is_expired()
     }
 
     // The control with an event queued.
-    pub(crate) fn push_back(mut self, event: Event) -> Control
+    pub fn push_back(mut self, event: Event) -> Control
         requires { ⌜ RingWithin (self .events) ⌝ }
         ensures { λ r. ⌜ r ≡ queueing self event ⌝ }
     {

@@ -33,7 +33,7 @@ fn greater(a: u64, b: u64) -> u64
 }
 
 // The rekey deadline of a session that was found and has sent data.
-pub(crate) fn rekey_after_time_on_send(found: Found) -> Time
+pub fn rekey_after_time_on_send(found: Found) -> Time
     requires { ⌜ FoundWithin found timeLimit ⌝ }
     ensures { λ r. ⌜ r ≡ foundOnSend found ⌝ }
 {
@@ -44,7 +44,7 @@ pub(crate) fn rekey_after_time_on_send(found: Found) -> Time
 }
 
 // The time of the last packet, if the session that was found reached `REKEY_AFTER_MESSAGES` sent messages with it.
-pub(crate) fn rekey_after_messages(found: Found, last_packet_sent: u64) -> Time
+pub fn rekey_after_messages(found: Found, last_packet_sent: u64) -> Time
     ensures { λ r. ⌜ r ≡ foundAfterMessages found «last_packet_sent» ⌝ }
 {
     let Found::Got(session) = found else {
@@ -57,7 +57,7 @@ pub(crate) fn rekey_after_messages(found: Found, last_packet_sent: u64) -> Time
 }
 
 // The rekey deadline of a session that was found and has received data.
-pub(crate) fn reject_after_time_on_receive(found: Found) -> Time
+pub fn reject_after_time_on_receive(found: Found) -> Time
     requires { ⌜ FoundWithin found timeLimit ⌝ }
     ensures { λ r. ⌜ r ≡ foundOnReceive found ⌝ }
 {
@@ -69,7 +69,7 @@ pub(crate) fn reject_after_time_on_receive(found: Found) -> Time
 
 impl Control {
     // When the scheduled handshake is due.
-    pub(crate) fn scheduled_handshake(self) -> Time
+    pub fn scheduled_handshake(self) -> Time
         ensures { λ r. ⌜ r ≡ scheduledHandshake self ⌝ }
     {
         let timers = self.timers;
@@ -77,7 +77,7 @@ impl Control {
     }
 
     // The retry deadline of the initiation that awaits a response.
-    pub(crate) fn handshake_rekey_timeout(self) -> Time
+    pub fn handshake_rekey_timeout(self) -> Time
         requires { ⌜ ControlWithin self timeLimit ⌝ }
         ensures { λ r. ⌜ r ≡ handshakeRekeyTimeout self ⌝ }
     {

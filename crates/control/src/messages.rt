@@ -166,7 +166,7 @@ impl Control {
     }
 
     // Sends an initiation, replacing one that is in progress.
-    pub(crate) fn initiate(self, now: u64) -> Initiated
+    pub fn initiate(self, now: u64) -> Initiated
         ensures { λ r. ⌜ r ≡ initiate self now ⌝ }
     {
         let first = self.first_initiation_at;

@@ -12,7 +12,6 @@ use Rattle.control.specs.Control as control
 use Rattle.control.specs.Deadlines as deadlines
 use Rattle.control.specs.Messages as messages
 use Rattle.control.specs.Transport as transport
-use Rattle.control.specs.Waking as waking
 use Rattle.demands.specs.Calls as calls
 use Rattle.demands.specs.Calls.Call.{event}
 use Rattle.demands.specs.Calls.{created}
@@ -36,6 +35,7 @@ use Rattle.sessions.specs.Store as store
 use Rattle.tunnel.specs.Arguments as arguments
 use Rattle.tunnel.specs.Check.{undamaged}
 use Rattle.tunnel.specs.Tunnel as tunnel
+use Rattle.waking.specs.Waking as waking
 use Rattle.window.specs.Window as window
 
 pub example-law : ExampleLaw

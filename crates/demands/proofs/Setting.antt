@@ -6,14 +6,12 @@ use mathlib.Core.List.{List}
 use Prim.Native.Nat.{ℕ}
 use Rattle.control.proofs.Opened.{known-completed, known-cookie}
 use Rattle.control.proofs.SoundOperations.{of-missing}
-use Rattle.control.proofs.SoundWaking.{of-datagram}
+use Rattle.control.proofs.SoundSending.{of-datagram}
 use Rattle.control.proofs.Steps.{of-choice, of-found, of-reserved}
-use Rattle.control.proofs.Wakings.{WakingKeeps, of-wake}
 use Rattle.control.specs.Control.{Inner, Turn, refuse, done, queueing, pollEvent, missingReport}
 use Rattle.control.specs.Messages.{responding, respond, handleHandshakeInitiation, confirming, establish, complete, handleHandshakeResponse, handleCookieReply, initiating, initiate, restartHandshake, startHandshake}
 use Rattle.control.specs.Transport as transport
 use Rattle.control.specs.Transport.{beginEncapsulate, finishEncapsulate, grant, encryptKeepalive, confirmFirstSession, selecting, accept, batched, committed, commitDecapsulate, beginDecapsulate}
-use Rattle.control.specs.Waking.{clearAll, expireControl, scheduling, queueKeepalive, persistentKeepalive, keepalives, expireCookie, sendScheduled, handleTimeout}
 use Rattle.control.specs.declared.control.Control.{Control}
 use Rattle.control.specs.declared.control.Out.{Out}
 use Rattle.control.specs.declared.transport.Encrypted.{Encrypted}
@@ -27,6 +25,8 @@ use Rattle.sessions.specs.declared.session.Session.{Session}
 use Rattle.tunnel.specs.Tunnel.{refused, settled, timed, timeless, timedTurn, timedBatch, callStart, callRestart, callSend, callReceive, callLook, callInitiation, callResponse, callCookie, callTimeout, callEvent, callDeadline, callMissing}
 use Rattle.tunnel.specs.declared.tunnel.Answered.{Answered}
 use Rattle.tunnel.specs.declared.tunnel.Tunnel.{Tunnel}
+use Rattle.waking.proofs.Wakings.{WakingKeeps, of-wake}
+use Rattle.waking.specs.Waking.{clearAll, expireControl, scheduling, queueKeepalive, persistentKeepalive, keepalives, expireCookie, sendScheduled, handleTimeout}
 
 module _ (interval : Interval) where
   -- timers, a control and what holds one have this setting

@@ -14,7 +14,6 @@ use Rattle.control.proofs.Steps.{of-choice}
 use Rattle.control.specs.Answer.{numberOf}
 use Rattle.control.specs.Control.{Turn, refuse, done}
 use Rattle.control.specs.Transport.{Batched}
-use Rattle.control.specs.Waking.{handleTimeout}
 use Rattle.control.specs.declared.answer.Answer.the-variants.{No, Done}
 use Rattle.control.specs.declared.answer.Answer.{Answer}
 use Rattle.control.specs.declared.control.Control.{Control}
@@ -49,6 +48,7 @@ use Rattle.tunnel.specs.Arguments.{initiationOutcome, openingOutcome}
 use Rattle.tunnel.specs.Sound.{Sound}
 use Rattle.tunnel.specs.Tunnel.{Called, CalledBatch, gate, refused, settled, timed, timeless, kept, timedTurn, timedBatch, callStart, callRestart, callSend, callReceive, callLook, callInitiation, callResponse, callCookie, callTimeout, callEvent, callDeadline, callMissing}
 use Rattle.tunnel.specs.declared.tunnel.Answered.{Answered}
+use Rattle.waking.specs.Waking.{handleTimeout}
 
 -- what is known after a call
 abbrev pub Next : (n : ℕ) (h : ℕ → List ℕ) (g k : List Grant) → World → Call → Reply → Type 0

@@ -12,7 +12,6 @@ use Rattle.control.specs.Control.{Turn, expiredControl, pollEvent, missingRepor
 use Rattle.control.specs.Deadlines.{nextDeadline, notBefore, pollTimeout}
 use Rattle.control.specs.Messages.{startHandshake, restartHandshake, handleHandshakeInitiation, handleHandshakeResponse, handleCookieReply}
 use Rattle.control.specs.Transport as transport
-use Rattle.control.specs.Waking.{handleTimeout}
 use Rattle.control.specs.declared.answer.Answer.the-variants.{Deadline}
 use Rattle.control.specs.declared.answer.Answer.{Answer}
 use Rattle.control.specs.declared.control.Control.{Control}
@@ -32,6 +31,7 @@ use Rattle.tunnel.specs.Check.{undamaged}
 use Rattle.tunnel.specs.Tunnel.{gate, timelessGate, refused, settled, timed, timeless, kept, timedTurn, timedBatch, callStart, callRestart, callSend, callReceive, callLook, callInitiation, callResponse, callCookie, callTimeout, callEvent, callDeadline, callMissing}
 use Rattle.tunnel.specs.declared.tunnel.Answered.{Answered}
 use Rattle.tunnel.specs.declared.tunnel.Tunnel.{Tunnel}
+use Rattle.waking.specs.Waking.{handleTimeout}
 
 -- the plain and the woken tunnel have the same control; the woken one's greatest time is at most this later than the plain one's
 pub record TwinTunnels (latest : ℕ) (p w : Tunnel) : Type 0 where

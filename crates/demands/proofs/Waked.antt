@@ -10,7 +10,6 @@ use Rattle.control.proofs.Steps.{of-choice, of-found}
 use Rattle.control.specs.Control.{Inner, withSessions, queueing}
 use Rattle.control.specs.Messages.{initiate, initiating}
 use Rattle.control.specs.Transport.{caseDatagram, encryptKeepalive}
-use Rattle.control.specs.Waking.{inner, clearAll, expireControl, scheduling, queueKeepalive, persistentKeepalive, keepalives, wakeIdle, wakeInProgress, expireCookie, wakeLater, wakeRest, wakeCurrent, wakeSessions, sendScheduled, wake}
 use Rattle.control.specs.declared.control.Control.{Control}
 use Rattle.control.specs.declared.transport.Encrypted.{Encrypted}
 use Rattle.demands.proofs.Granting.Encrypts.{skips, sends}
@@ -33,6 +32,7 @@ use Rattle.sessions.specs.declared.session.Time.{Time}
 use Rattle.sessions.specs.declared.sessions.Found.the-variants.{Got}
 use Rattle.sessions.specs.declared.sessions.Found.{Found}
 use Rattle.sessions.specs.declared.sessions.Sessions.{Sessions}
+use Rattle.waking.specs.Waking.{inner, clearAll, expireControl, scheduling, queueKeepalive, persistentKeepalive, keepalives, wakeIdle, wakeInProgress, expireCookie, wakeLater, wakeRest, wakeCurrent, wakeSessions, sendScheduled, wake}
 
 -- an event that is no grant
 pub record Ungranted (event : Event) : Type 0 where

@@ -9,14 +9,11 @@ use native.Mathlib.Omega.{arith}
 use lib.Dec.{ltb, leb, eqb}
 use borrow.Author.Tests.{le-ltb, lt-leb, eqb-true}
 use Rattle.base.specs.Choice.{choose}
-use Rattle.control.proofs.Quiet.{quiet-law}
 use Rattle.control.proofs.Steps.{of-found, of-reserved}
 use Rattle.control.specs.Control.{Inner, Turn, newControl, refuse, done, expiredControl}
 use Rattle.control.specs.Deadlines.{nextDeadline, notBefore, pollTimeout}
-use Rattle.control.specs.Quiet.{Early}
 use Rattle.control.specs.Transport as transport
 use Rattle.control.specs.Transport.{grant, finishEncapsulate}
-use Rattle.control.specs.Waking.{handleTimeout}
 use Rattle.control.specs.declared.answer.Answer.the-variants.{No, Done, Deadline}
 use Rattle.control.specs.declared.answer.Answer.{Answer}
 use Rattle.control.specs.declared.control.Control.{Control}
@@ -44,6 +41,9 @@ use Rattle.tunnel.specs.Check.{undamaged}
 use Rattle.tunnel.specs.Sound.{Sound}
 use Rattle.tunnel.specs.Tunnel.{made, gate, refused, settled, timed, kept, timedTurn, Called, callNew, callSend, callTimeout}
 use Rattle.tunnel.specs.declared.tunnel.Tunnel.{Tunnel}
+use Rattle.waking.proofs.Quiet.{quiet-law}
+use Rattle.waking.specs.Quiet.{Early}
+use Rattle.waking.specs.Waking.{handleTimeout}
 
 -- a tunnel that would give 11 is expired: no other way of sending gives it
 abbrev NotEleven : Out → Type 0

@@ -14,7 +14,6 @@ use Rattle.control.specs.Deadlines.{scheduledHandshake, earliestExpiry, cookieD
 use Rattle.control.specs.Messages.{confirming, establish, complete, handleHandshakeResponse, initiating, initiate, restartHandshake, startHandshake}
 use Rattle.control.specs.Transport as transport
 use Rattle.control.specs.Transport.{caseDatagram, beginEncapsulate, finishEncapsulate, grant, encryptKeepalive, confirmFirstSession}
-use Rattle.control.specs.Waking.{clearAll, expireControl, scheduling, queueKeepalive, persistentKeepalive, keepalives, rekeyDue, wakeIdle, wakeInProgress, expireCookie, wakeLater, wakeRest, isLost, isReplaced, wakeCurrent, wakeSessions, sendScheduled, wake, handleTimeout}
 use Rattle.control.specs.declared.answer.Answer.the-variants.{No, Initiation, Polled, Deadline}
 use Rattle.control.specs.declared.answer.Answer.{Answer}
 use Rattle.demands.proofs.Admits.{isEleven, isAbove, testExpired, testEarly, early-is, testHeld, held-is, noneEarlier, testOrder, order-is}
@@ -38,6 +37,7 @@ use Rattle.sessions.specs.declared.session.Time.{Time}
 use Rattle.tunnel.specs.Arguments.{intervalOf, openingOutcome, lacking, badOutcome, badJitter, creationNumber}
 use Rattle.tunnel.specs.Check.{undamaged}
 use Rattle.tunnel.specs.Tunnel.{made, gate, timelessGate, refused, settled, timed, timeless, kept, timedTurn, callNew, callStart, callSend, callResponse, callTimeout, callEvent, callDeadline}
+use Rattle.waking.specs.Waking.{clearAll, expireControl, scheduling, queueKeepalive, persistentKeepalive, keepalives, rekeyDue, wakeIdle, wakeInProgress, expireCookie, wakeLater, wakeRest, isLost, isReplaced, wakeCurrent, wakeSessions, sendScheduled, wake, handleTimeout}
 
 -- what the two tunnels, with a keepalive of so many seconds, answer to a call after some steps
 abbrev plainAnswer : ℕ → List Step → Call → Answer

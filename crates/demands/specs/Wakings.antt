@@ -10,7 +10,7 @@ use Rattle.base.specs.Choice.{choose}
 use Rattle.control.specs.Control.{newControl, pollEvent}
 use Rattle.control.specs.Messages.{startHandshake, restartHandshake, handleHandshakeInitiation, handleHandshakeResponse, handleCookieReply}
 use Rattle.control.specs.Transport as transport
-use Rattle.control.specs.Waking.{handleTimeout}
+use Rattle.waking.specs.Waking.{handleTimeout}
 use Rattle.control.specs.declared.answer.Answer.the-variants.{No, Deadline}
 use Rattle.control.specs.declared.answer.Answer.{Answer}
 use Rattle.control.specs.declared.control.Control.{Control}

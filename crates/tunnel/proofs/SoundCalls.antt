@@ -10,7 +10,7 @@ use lib.ListN.{length}
 use borrow.Author.Tests.{eqb-true, eqb-false}
 use Rattle.base.specs.Choice.{choose}
 use Rattle.control.proofs.Kept.{never-within, on-new, on-new-handshake, on-new-ring}
-use Rattle.control.proofs.SoundOperations.{SoundOut, SoundStill, unraising, restart-sound, start-sound, send-sound, batch-sound, look-sound, cookie-sound, response-sound, timeout-sound, event-sound, missing-sound, initiation-sound}
+use Rattle.control.proofs.SoundOperations.{SoundOut, SoundStill, unraising, restart-sound, start-sound, send-sound, batch-sound, look-sound, cookie-sound, response-sound, event-sound, missing-sound, initiation-sound}
 use Rattle.control.proofs.SoundSteps.{known-choice, SoundControl, eight-empty}
 use Rattle.control.proofs.Steps.{all-empty}
 use Rattle.control.specs.Control.{newControl}
@@ -32,6 +32,7 @@ use Rattle.tunnel.specs.Sound.{Sound, SoundLaw, CreatedLaw}
 use Rattle.tunnel.specs.Tunnel.{made, gate, timelessGate, refused, settled, timed, timeless, Called, timedTurn, timedBatch, callNew, callStart, callRestart, callSend, callReceive, callLook, callInitiation, callResponse, callCookie, callTimeout, callEvent, callDeadline, callMissing}
 use Rattle.tunnel.specs.declared.tunnel.Answered.{Answered}
 use Rattle.tunnel.specs.declared.tunnel.Tunnel.{Tunnel}
+use Rattle.waking.proofs.SoundWaking.{timeout-sound}
 
 -- a sound tunnel's control, and a tunnel with a sound control
 pub its-control : (t : Tunnel) → Sound t → SoundControl (t .control) (t .greatest)

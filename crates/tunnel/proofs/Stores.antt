@@ -6,10 +6,11 @@ use mathlib.Core.List.{List}
 use Prim.Native.Nat.{ℕ}
 use lib.ListN.{length}
 use Rattle.control.proofs.Steps.{of-choice}
-use Rattle.control.proofs.Stores.{Whole, batch-store, initiation-store, response-store, timeout-store}
+use Rattle.control.proofs.Stores.{Whole, batch-store, initiation-store, response-store}
 use Rattle.tunnel.specs.Sound.{StoreLaw}
 use Rattle.tunnel.specs.Tunnel.{kept, timedTurn, timedBatch, callReceive, callInitiation, callResponse, callTimeout}
 use Rattle.tunnel.specs.declared.tunnel.Tunnel.{Tunnel}
+use Rattle.waking.proofs.Stores.{timeout-store}
 
 -- what a call leaves in place of the store that came
 kept-whole : (t : Tunnel) (bad : Bool) (now : ℕ) (came left : List ℕ) → Whole came → Whole left → Whole (kept t bad now came left)

@@ -9,7 +9,7 @@ use Rattle.control.specs.Control.{Turn, newControl, outcome, pollEvent, missing
 use Rattle.control.specs.Deadlines.{pollTimeout}
 use Rattle.control.specs.Messages.{startHandshake, restartHandshake, handleHandshakeInitiation, handleHandshakeResponse, handleCookieReply}
 use Rattle.control.specs.Transport.{Batched, send, commitDecapsulate, beginDecapsulate}
-use Rattle.control.specs.Waking.{handleTimeout}
+use Rattle.waking.specs.Waking.{handleTimeout}
 use Rattle.control.specs.declared.answer.Answer.the-variants.{No, Done, Deadline}
 use Rattle.control.specs.declared.answer.Answer.{Answer}
 use Rattle.control.specs.declared.control.Out.{Out}

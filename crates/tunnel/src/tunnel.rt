@@ -12,6 +12,7 @@ use control::answer::Answer;
 use control::control::Control;
 use control::control::Out;
 use sessions::store::zero;
+use waking::handle_timeout;
 ghost use mathlib.Core.Path.{_≡_};
 ghost use lib.Dec.{ltb};
 ghost use Rattle.base.specs.Choice.{choose};
@@ -275,7 +276,7 @@ impl Tunnel {
         if number != 0 {
             return self.refused(number);
         }
-        let out = self.control.handle_timeout(store, jitter, now);
+        let out = handle_timeout(self.control, store, jitter, now);
         self.settled(now, out)
     }
 

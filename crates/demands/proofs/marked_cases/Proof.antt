@@ -18,7 +18,7 @@ use Rattle.parts.specs.RingBuffer.{placeOf, emptyPlaces, newRing, ringIsEmpty, 
 use Rattle.parts.specs.Timers.{caseInterval, newTimers, rejectAfterTimeOf, rekeyAfterTimeWithoutResponse, keepaliveAfterTimeWithoutSend, nextPersistentKeepalive, tickPersistentKeepalive, rekeyTimeoutOf}
 use Rattle.control.specs.Transport.{caseDatagram, encryptKeepalive}
 use Rattle.tunnel.specs.Tunnel.{made, gate, timelessGate, refused, settled, timed, timeless, kept, timedTurn, callNew, callTimeout, callEvent, callDeadline}
-use Rattle.control.specs.Waking.{queueKeepalive, persistentKeepalive, keepalives, rekeyDue, wakeIdle, expireCookie, wakeLater, wakeRest, wakeCurrent, wakeSessions, wake, handleTimeout}
+use Rattle.waking.specs.Waking.{queueKeepalive, persistentKeepalive, keepalives, rekeyDue, wakeIdle, expireCookie, wakeLater, wakeRest, wakeCurrent, wakeSessions, wake, handleTimeout}
 use Rattle.window.specs.Window.{bitAt, checkBit, setBit, clearBit, clears, empty, advance, isInvalid, willAccept, nextAfter, wordsAfter}
 use Rattle.window.specs.History.{verdict, given}
 use Rattle.demands.specs.Marked.{same, standing, sameWindow, after, verdicts, reserving, sends, code, says, filled, wokenAt, holds, holdAll, marked}
