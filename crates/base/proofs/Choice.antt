@@ -1,7 +1,7 @@
 -- Rules for `choose`: a value equals a choice if the test is known and the value equals the side that it picks.
 -- `search picks` follows a function's tests through its definition.
 -- Assumes nothing.
-use mathlib.Core.Path.{_≡_, refl}
+use mathlib.Core.Path.{_≡_}
 use mathlib.Core.Bool.{Bool, true, false}
 use Prim.Native.Nat.{ℕ, _≤_, _<_}
 use lib.Dec.{ltb, leb, eqb}

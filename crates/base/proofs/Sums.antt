@@ -1,7 +1,7 @@
 -- Laws of sums over the numbers below a count: equal terms, a split, a period's sum from any place, and a number's ones.
 -- Assumes nothing.
 use mathlib.Core.Path.{_≡_, refl, ap, sym, _∙_}
-use Prim.Native.Nat.{ℕ, zero, suc, _+_, _/_, _%_, _^_, _<_}
+use Prim.Native.Nat.{ℕ, zero, suc, _+_, _/_, _^_, _<_}
 use native.Mathlib.Nat.{zero-add, add-zero, add-suc, add-comm, pow-suc}
 use native.Mathlib.Omega.{arith}
 use lib.Count.{ones, ones-step, ones-le}

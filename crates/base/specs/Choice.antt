@@ -6,3 +6,8 @@ module _ {A : Type 0} where
   unfoldable pub choose : Bool → A → A → A
   choose true x y = x
   choose false x y = y
+
+infixr 30 _and_
+-- both hold
+abbrev pub _and_ : Bool → Bool → Bool
+a and b = choose a b false

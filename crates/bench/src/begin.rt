@@ -2,7 +2,7 @@
 use crate::turns::wakes;
 use control::answer::Answer;
 use parts::event::Event;
-use sessions::session::Time;
+use session::session::Time;
 use tunnel::tunnel::Tunnel;
 
 // The local index of the first session.

@@ -2,9 +2,9 @@
 -- Assumes nothing.
 use mathlib.Core.Path.{_≡_, _∙_}
 use mathlib.Core.Bool.{false}
-use Prim.Native.Nat.{ℕ, _+_}
+use Prim.Native.Nat.{ℕ}
 use Rattle.control.specs.Control.{control, withEvents, outcome, newControl, queueing, pollEvent}
-use Rattle.control.specs.Deadlines.{earliestExpiry, cookieDeadline, rejectDeadline, handshakeRekeyTimeout, foundOnSend, foundAfterMessages, foundOnReceive, rekeyOnSend, rekeyAfterMessages, rekeyOnReceive, responseDeadline, passiveDeadline, currentPersistentDeadline, commonDeadline, rekeyDeadline, keepaliveDeadline}
+use Rattle.control.specs.Deadlines.{earliestExpiry, cookieDeadline, rejectDeadline, handshakeRekeyTimeout, foundOnSend, foundAfterMessages, foundOnReceive, responseDeadline, passiveDeadline, currentPersistentDeadline, commonDeadline, rekeyDeadline, keepaliveDeadline}
 use Rattle.control.specs.declared.answer.Answer.the-variants.{Polled}
 use Rattle.control.specs.declared.control.Control.{Control}
 use Rattle.parts.specs.Handshake.{newHandshake, inFlightInitiation}
@@ -16,10 +16,10 @@ use Rattle.parts.specs.declared.ring_buffer.Popped.{Popped}
 use Rattle.parts.specs.declared.ring_buffer.RingBuffer.{RingBuffer}
 use Rattle.parts.specs.declared.timers.Interval.{Interval}
 use Rattle.parts.specs.declared.timers.Timers.{Timers}
-use Rattle.sessions.specs.Session.{earlier}
+use Rattle.session.specs.Session.{earlier}
 use Rattle.sessions.specs.Sessions.{newSessions, currentOf}
-use Rattle.sessions.specs.declared.session.Time.the-variants.{Never}
-use Rattle.sessions.specs.declared.session.Time.{Time}
+use Rattle.session.specs.declared.session.Time.the-variants.{Never}
+use Rattle.session.specs.declared.session.Time.{Time}
 use Rattle.sessions.specs.declared.sessions.Found.{Found}
 use Rattle.sessions.specs.declared.sessions.Sessions.{Sessions}
 
@@ -53,7 +53,7 @@ module _ (c : Control) where
   pub chain-rekey : (found : Found) (a b d e f g r : Time) → found ≡ currentOf (c .sessions) → a ≡ foundOnSend found
       → b ≡ foundAfterMessages found (c .timers .«time_last_packet_sent») → d ≡ earlier a b → e ≡ foundOnReceive found → f ≡ responseDeadline c
       → g ≡ earlier e f → r ≡ earlier d g → r ≡ rekeyDeadline c
-  unfolding rekeyDeadline rekeyOnSend rekeyAfterMessages rekeyOnReceive foundOnSend foundAfterMessages foundOnReceive
+  unfolding rekeyDeadline
   chain-rekey found a b d e f g r l p q s t u v w = w ∙ rw (s, p, q, v, t, u, l)
 
   pub chain-keepalive : (a b r : Time) → a ≡ passiveDeadline c → b ≡ currentPersistentDeadline c → r ≡ earlier a b → r ≡ keepaliveDeadline c

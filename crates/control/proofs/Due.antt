@@ -8,11 +8,11 @@ use Rattle.control.specs.Control.{expiredControl}
 use Rattle.control.specs.Deadlines.{scheduledHandshake, attemptDeadline, handshakeRekeyTimeout, persistentDeadline, currentPersistentDeadline, commonDeadline, rekeyDeadline, keepaliveDeadline, nextDeadline, unscheduledDeadline, pollTimeout, notBefore}
 use Rattle.control.specs.declared.control.Control.{Control}
 use Rattle.parts.specs.RingBuffer.{ringIsEmpty}
-use Rattle.sessions.specs.Session.{caseTime, earlier}
+use Rattle.session.specs.Session.{caseTime, earlier}
 use Rattle.sessions.specs.Sessions.{caseFound, currentOf}
-use Rattle.sessions.specs.declared.session.Session.{Session}
-use Rattle.sessions.specs.declared.session.Time.the-variants.{Never, At}
-use Rattle.sessions.specs.declared.session.Time.{Time}
+use Rattle.session.specs.declared.session.Session.{Session}
+use Rattle.session.specs.declared.session.Time.the-variants.{Never, At}
+use Rattle.session.specs.declared.session.Time.{Time}
 use Rattle.sessions.specs.declared.sessions.Found.the-variants.{Nothing, Got}
 use Rattle.sessions.specs.declared.sessions.Found.{Found}
 

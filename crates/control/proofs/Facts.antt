@@ -8,12 +8,13 @@ use native.Mathlib.Omega.{arith}
 use native.Mathlib.Decide.{ℕ-discrete}
 use lib.Dec.{leb, eqb}
 use borrow.Author.Tests.{leb-true, le-leb, eqb-true, eq-eqb, ne-eqb}
-use Rattle.base.specs.Choice.{choose}
+use Rattle.base.specs.Choice.{choose, _and_}
 use Rattle.control.specs.Check.{storedHolds, controlHolds}
 use Rattle.control.specs.Facts.EventsWithin.{none, more}
 use Rattle.control.specs.Facts.{SlotWithin, SessionsWithin, EventWithin, EventsWithin, QueueWithin, ControlWithin}
 use Rattle.control.specs.declared.control.Control.{Control}
-use Rattle.parts.specs.Check.{limit, _and_, timeHolds, stateHolds, inRange, intervalHolds, bothAtMost, eventHolds, slotHolds, slotsHold, queueHolds, eventsHold, handshakeHolds, packetTimersHold, dataTimersHold, fieldsHold, timersHold}
+use Rattle.sessions.specs.Check.{slotHolds, slotsHold}
+use Rattle.parts.specs.Check.{timeHolds, stateHolds, inRange, intervalHolds, bothAtMost, eventHolds, queueHolds, eventsHold, handshakeHolds, packetTimersHold, dataTimersHold, fieldsHold, timersHold}
 use Rattle.parts.specs.Event.{caseEvent}
 use Rattle.parts.specs.Handshake.{caseState, SentWithin, HandshakeWithin}
 use Rattle.parts.specs.RingBuffer.{queued}
@@ -27,12 +28,12 @@ use Rattle.parts.specs.declared.ring_buffer.RingBuffer.{RingBuffer}
 use Rattle.parts.specs.declared.timers.Interval.the-variants.{Off, Every}
 use Rattle.parts.specs.declared.timers.Interval.{Interval}
 use Rattle.parts.specs.declared.timers.Timers.{Timers}
-use Rattle.sessions.specs.Index.{slotIn}
-use Rattle.sessions.specs.Session.{caseTime}
+use Rattle.session.specs.Index.{slotIn}
+use Rattle.session.specs.Session.{rejectAfterMessages, caseTime}
 use Rattle.sessions.specs.Sessions.{slotAt}
-use Rattle.sessions.specs.declared.session.Session.{Session}
-use Rattle.sessions.specs.declared.session.Time.the-variants.{Never, At}
-use Rattle.sessions.specs.declared.session.Time.{Time}
+use Rattle.session.specs.declared.session.Session.{Session}
+use Rattle.session.specs.declared.session.Time.the-variants.{Never, At}
+use Rattle.session.specs.declared.session.Time.{Time}
 use Rattle.sessions.specs.declared.sessions.Sessions.{Sessions}
 
 -- the two parts of a test that is true
@@ -167,13 +168,13 @@ slot-facts : (s : Session) (slot most : ℕ) → slotHolds s slot most ≡ true 
 unfolding slotHolds
 slot-facts s slot most h f = facts (picked (s .filled) _ h f)
   where
-    facts : (leb (s .«established_at») most and leb (s .«sending_key_counter») limit and leb (s .next) limit and eqb (slotIn (s .«receiving_index»)) slot) ≡ true
+    facts : (leb (s .«established_at») most and leb (s .«sending_key_counter») rejectAfterMessages and leb (s .next) rejectAfterMessages and eqb (slotIn (s .«receiving_index»)) slot) ≡ true
         → SlotWithin s slot most
     facts p =
         record {
           established = leb-true (s .«established_at») most (first _ _ p);
-          counter = leb-true (s .«sending_key_counter») limit (first _ _ (second _ _ p));
-          next = leb-true (s .next) limit (first _ _ (second _ _ (second _ _ p)));
+          counter = leb-true (s .«sending_key_counter») rejectAfterMessages (first _ _ (second _ _ p));
+          next = leb-true (s .next) rejectAfterMessages (first _ _ (second _ _ (second _ _ p)));
           index = eqb-true (slotIn (s .«receiving_index»)) slot (second _ _ (second _ _ (second _ _ p)));
         }
 
@@ -182,8 +183,8 @@ unfolding slotHolds
 slot-holds s slot most w =
     either (s .filled) (λ f.
     joined (le-leb (s .«established_at») most (w f .established))
-    (joined (le-leb (s .«sending_key_counter») limit (w f .counter))
-    (joined (le-leb (s .next) limit (w f .next)) (eq-eqb (slotIn (s .«receiving_index»)) slot (w f .index)))))
+    (joined (le-leb (s .«sending_key_counter») rejectAfterMessages (w f .counter))
+    (joined (le-leb (s .next) rejectAfterMessages (w f .next)) (eq-eqb (slotIn (s .«receiving_index»)) slot (w f .index)))))
 
 -- the slots
 slots-facts : (s : Sessions) (count most : ℕ) → slotsHold s count most ≡ true → (k : ℕ) → k < count → slotHolds (slotAt s k) k most ≡ true

@@ -19,9 +19,9 @@ use Rattle.parts.specs.declared.handshake.HandshakeState.the-variants.{None, In
 use Rattle.parts.specs.declared.ring_buffer.RingBuffer.{RingBuffer}
 use Rattle.parts.specs.declared.timers.Interval.{Interval}
 use Rattle.parts.specs.declared.timers.Timers.{Timers}
-use Rattle.sessions.specs.Session.{caseTime}
-use Rattle.sessions.specs.declared.session.Time.the-variants.{Never, At}
-use Rattle.sessions.specs.declared.session.Time.{Time}
+use Rattle.session.specs.Session.{caseTime}
+use Rattle.session.specs.declared.session.Time.the-variants.{Never, At}
+use Rattle.session.specs.declared.session.Time.{Time}
 
 -- no time, and a time within the bound
 pub never-within : (most : ℕ) → TimeWithin Never most

@@ -18,12 +18,12 @@ use Rattle.parts.specs.declared.handshake.HandshakeState.the-variants.{None, In
 use Rattle.parts.specs.declared.handshake.HandshakeState.{HandshakeState}
 use Rattle.parts.specs.declared.ring_buffer.RingBuffer.{RingBuffer}
 use Rattle.parts.specs.declared.timers.Timers.{Timers}
-use Rattle.sessions.specs.Index.{slotIn}
-use Rattle.sessions.specs.Session.{timeLimit}
+use Rattle.session.specs.Index.{slotIn}
+use Rattle.session.specs.Session.{timeLimit}
 use Rattle.sessions.specs.Sessions.{caseFound, caseSelected, slotAt, TimesWithin, inSlotOf, get, currentOf}
-use Rattle.sessions.specs.declared.session.Session.{Session}
-use Rattle.sessions.specs.declared.session.Time.the-variants.{Never, At}
-use Rattle.sessions.specs.declared.session.Time.{Time}
+use Rattle.session.specs.declared.session.Session.{Session}
+use Rattle.session.specs.declared.session.Time.the-variants.{Never, At}
+use Rattle.session.specs.declared.session.Time.{Time}
 use Rattle.sessions.specs.declared.sessions.Found.the-variants.{Nothing, Got}
 use Rattle.sessions.specs.declared.sessions.Found.{Found}
 use Rattle.sessions.specs.declared.sessions.Selected.the-variants.{Unset, Index}

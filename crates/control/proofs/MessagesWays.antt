@@ -23,9 +23,9 @@ use Rattle.parts.specs.declared.handshake.Cookie.{Cookie}
 use Rattle.parts.specs.declared.handshake.Handshake.{Handshake}
 use Rattle.parts.specs.declared.timers.Timers.{Timers}
 use Rattle.sessions.specs.Sessions.{nextIndex, insert, setCurrent}
-use Rattle.sessions.specs.Store.{Leaves}
-use Rattle.sessions.specs.declared.session.Session.{Session}
-use Rattle.sessions.specs.declared.session.Time.the-variants.{At}
+use Rattle.session.specs.Store.{Leaves}
+use Rattle.session.specs.declared.session.Session.{Session}
+use Rattle.session.specs.declared.session.Time.the-variants.{At}
 use Rattle.sessions.specs.declared.sessions.Allocated.{Allocated}
 use Rattle.sessions.specs.declared.sessions.Sessions.{Sessions}
 

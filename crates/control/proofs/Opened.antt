@@ -12,10 +12,10 @@ use Rattle.parts.specs.declared.handshake.Cookie.the-variants.{Unusable, Stored
 use Rattle.parts.specs.declared.handshake.Cookie.{Cookie}
 use Rattle.parts.specs.declared.handshake.Handshake.{Handshake}
 use Rattle.parts.specs.declared.handshake.HandshakeState.the-variants.{None}
-use Rattle.sessions.specs.Session.{newSession}
-use Rattle.sessions.specs.declared.session.Role.the-variants.{Initiator, Responder}
-use Rattle.sessions.specs.declared.session.Session.{Session}
-use Rattle.sessions.specs.declared.session.Time.the-variants.{At}
+use Rattle.session.specs.Session.{newSession}
+use Rattle.session.specs.declared.session.Role.the-variants.{Initiator, Responder}
+use Rattle.session.specs.declared.session.Session.{Session}
+use Rattle.session.specs.declared.session.Time.the-variants.{At}
 
 -- what holds of every case holds of the choice by cases
 module _ {A : Type 0} (P : A → Type 0) where

@@ -22,12 +22,12 @@ use Rattle.control.specs.declared.transport.Datagram.the-variants.{Sent}
 use Rattle.control.specs.declared.transport.Datagram.{Datagram}
 use Rattle.control.specs.declared.transport.Encrypted.{Encrypted}
 use Rattle.parts.specs.declared.handshake.Handshake.{Handshake}
-use Rattle.sessions.specs.Session.{caseReserved, newSession, withId, withCounter, reserveCounters, expiredAt, shouldUseAt, sendingCounterExhausted, emptySession, rejectAfterTime, keepaliveTimeout}
+use Rattle.session.specs.Session.{caseReserved, newSession, withId, withCounter, reserveCounters, expiredAt, shouldUseAt, sendingCounterExhausted, emptySession, rejectAfterTime, keepaliveTimeout}
 use Rattle.sessions.specs.Sessions.{caseFound, caseSelected, inSlotOf, get, put, currentOf, inserting, insert, isIndex, select, setCurrent, usable, sendingSession}
-use Rattle.sessions.specs.declared.session.Reserved.the-variants.{First}
-use Rattle.sessions.specs.declared.session.Reserved.{Reserved}
-use Rattle.sessions.specs.declared.session.Role.the-variants.{Initiator}
-use Rattle.sessions.specs.declared.session.Session.{Session}
+use Rattle.session.specs.declared.session.Reserved.the-variants.{First}
+use Rattle.session.specs.declared.session.Reserved.{Reserved}
+use Rattle.session.specs.declared.session.Role.the-variants.{Initiator}
+use Rattle.session.specs.declared.session.Session.{Session}
 use Rattle.sessions.specs.declared.sessions.Found.the-variants.{Nothing, Got}
 use Rattle.sessions.specs.declared.sessions.Found.{Found}
 use Rattle.sessions.specs.declared.sessions.Selected.the-variants.{Unset, Index}

@@ -22,17 +22,16 @@ use Rattle.control.specs.declared.control.Out.{Out}
 use Rattle.parts.proofs.Queue.{queue-of-newest}
 use Rattle.parts.specs.Handshake.{withStates, appendMac1AndMac2, receiveCookieReply}
 use Rattle.parts.specs.RingBuffer.{popFront}
-use Rattle.parts.specs.Timers.{maxJitter}
 use Rattle.parts.specs.declared.event.Event.the-variants.{Established}
 use Rattle.parts.specs.declared.handshake.Cookie.the-variants.{Stored}
 use Rattle.parts.specs.declared.handshake.Handshake.{Handshake}
 use Rattle.parts.specs.declared.handshake.HandshakeState.the-variants.{None}
 use Rattle.sessions.specs.Batch.{started}
-use Rattle.sessions.specs.Session.{newSession, reserveCounters, preparePacketData}
+use Rattle.session.specs.Session.{newSession, reserveCounters, preparePacketData}
 use Rattle.sessions.specs.Sessions.{caseMissing, sendingSession}
 use Rattle.sessions.specs.declared.batch.Received.{Received}
-use Rattle.sessions.specs.declared.session.Role.the-variants.{Initiator, Responder}
-use Rattle.sessions.specs.declared.session.Session.{Session}
+use Rattle.session.specs.declared.session.Role.the-variants.{Initiator, Responder}
+use Rattle.session.specs.declared.session.Session.{Session}
 use Rattle.sessions.specs.declared.sessions.Missing.the-variants.{Refused, Count}
 use Rattle.sessions.specs.declared.sessions.Missing.{Missing}
 

@@ -10,7 +10,7 @@ use Rattle.control.specs.declared.transport.Datagram.the-variants.{Skipp
 use Rattle.control.specs.declared.transport.Datagram.{Datagram}
 use Rattle.control.specs.declared.transport.Encrypted.{Encrypted}
 use Rattle.parts.specs.Timers.{tickLastPacketSent}
-use Rattle.sessions.specs.Session.{reserveCounters}
+use Rattle.session.specs.Session.{reserveCounters}
 use Rattle.sessions.specs.Sessions.{put, sendingSession}
 
 -- what holds of a keepalive skipped and of every one sent holds of both

@@ -15,7 +15,6 @@ use Rattle.control.specs.Control.{withHandshake, withSessions, withTimer
 use Rattle.control.specs.Facts.{SlotWithin, SessionsWithin, EventWithin, ControlWithin}
 use Rattle.control.specs.declared.control.Control.{Control}
 use Rattle.parts.proofs.Queue.{queue-of-newest}
-use Rattle.parts.specs.Check.{limit}
 use Rattle.parts.specs.Handshake.{HandshakeWithin}
 use Rattle.parts.specs.Timers.{TimersWithin}
 use Rattle.parts.specs.declared.event.Event.{Event}
@@ -23,16 +22,16 @@ use Rattle.parts.specs.declared.handshake.Handshake.{Handshake}
 use Rattle.parts.specs.declared.timers.Timers.{Timers}
 use Rattle.sessions.proofs.Received.{receiving-got, batch-within}
 use Rattle.sessions.specs.Batch.{started, batchOf, withProgress, receivingSession, Outcome, refused, answered, commit, receive}
-use Rattle.sessions.specs.Index.{slotIn}
-use Rattle.sessions.specs.Session.{caseRole, caseReserved, newSession, withCounter, withId, reserveCounters, expiredAt, shouldUseAt, sendingCounterExhausted, emptySession}
+use Rattle.session.specs.Index.{slotIn}
+use Rattle.session.specs.Session.{rejectAfterMessages, caseRole, caseReserved, newSession, withCounter, withId, reserveCounters, expiredAt, shouldUseAt, sendingCounterExhausted, emptySession}
 use Rattle.sessions.specs.Sessions.{caseFound, Held, emptySlots, put, currentOf, inserting, insert, select, setCurrent, nextIndex, usable, sendingSession, clear, emptied, expire, get}
 use Rattle.sessions.specs.declared.batch.Progress.{Progress}
 use Rattle.sessions.specs.declared.batch.Received.{Received}
-use Rattle.sessions.specs.declared.session.Reserved.the-variants.{TooFew, First}
-use Rattle.sessions.specs.declared.session.Reserved.{Reserved}
-use Rattle.sessions.specs.declared.session.Role.the-variants.{Initiator, Responder}
-use Rattle.sessions.specs.declared.session.Role.{Role}
-use Rattle.sessions.specs.declared.session.Session.{Session}
+use Rattle.session.specs.declared.session.Reserved.the-variants.{TooFew, First}
+use Rattle.session.specs.declared.session.Reserved.{Reserved}
+use Rattle.session.specs.declared.session.Role.the-variants.{Initiator, Responder}
+use Rattle.session.specs.declared.session.Role.{Role}
+use Rattle.session.specs.declared.session.Session.{Session}
 use Rattle.sessions.specs.declared.sessions.Found.the-variants.{Nothing, Got}
 use Rattle.sessions.specs.declared.sessions.Found.{Found}
 use Rattle.sessions.specs.declared.sessions.Sessions.{Sessions}
@@ -105,7 +104,7 @@ module _ (most : ℕ) where
   pub counted-within : (x y : Session) (count n : ℕ) → OwnSlot x most → reserveCounters x count ≡ First n y → OwnSlot y most
   unfolding reserveCounters
   counted-within x y count n w p =
-      let q : (leb (x .«sending_key_counter» + count) limit ≡ true) × (withCounter x (x .«sending_key_counter» + count) ≡ y) = of-granted _ _ _ _ _ p in
+      let q : (leb (x .«sending_key_counter» + count) rejectAfterMessages ≡ true) × (withCounter x (x .«sending_key_counter» + count) ≡ y) = of-granted _ _ _ _ _ p in
       rw (← q .1) (record { established = w .established; counter = leb-true _ _ (q .0); next = w .next; index = refl })
 
   pub new-within : (local peer now id : ℕ) (role : Role) → now ≤ most → OwnSlot (withId (newSession local peer role now) id) most
@@ -184,7 +183,7 @@ module _ (most : ℕ) where
       }
 
 -- the window's next after a batch
-batch-next : (store : List ℕ) (x : Session) (counters kinds : List ℕ) → x .next ≤ limit → batchOf store x counters kinds .progress .next ≤ limit
+batch-next : (store : List ℕ) (x : Session) (counters kinds : List ℕ) → x .next ≤ rejectAfterMessages → batchOf store x counters kinds .progress .next ≤ rejectAfterMessages
 unfolding started
 batch-next store x counters kinds h = batch-within _ (started x) counters kinds h
 
@@ -194,7 +193,7 @@ pub record SoundReceived (r : Received) (most : ℕ) : Type 0 where
   pub established : r .«established_at» ≤ most
 
 module _ (most : ℕ) where
-  progress-within : (x : Session) (k : ℕ) (p : Progress) → SlotWithin x k most → p .next ≤ limit → OwnSlot (withProgress x p) most
+  progress-within : (x : Session) (k : ℕ) (p : Progress) → SlotWithin x k most → p .next ≤ rejectAfterMessages → OwnSlot (withProgress x p) most
   unfolding withProgress
   progress-within x k p w h =
       of-choice (λ (y : Session). OwnSlot y most) _ _ _
@@ -205,7 +204,7 @@ module _ (most : ℕ) where
   unfolding refused
   refused-sound s number w = record { sessions = w; established = omega arith }
 
-  answered-sound : (s : Sessions) (x : Session) (k : ℕ) (p : Progress) → SoundSessions s most → SlotWithin x k most → p .next ≤ limit
+  answered-sound : (s : Sessions) (x : Session) (k : ℕ) (p : Progress) → SoundSessions s most → SlotWithin x k most → p .next ≤ rejectAfterMessages
       → SoundReceived (answered s x p) most
   unfolding answered
   answered-sound s x k p w v h = record { sessions = put-sound most s _ w (progress-within x k p v h); established = v .established }

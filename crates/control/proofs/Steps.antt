@@ -13,18 +13,18 @@ use Rattle.control.specs.Facts.{SlotWithin, SessionsWithin, EventWithin,
 use Rattle.control.specs.Messages.{initiate, initiating}
 use Rattle.control.specs.declared.control.Control.{Control}
 use Rattle.control.specs.declared.messages.Initiated.{Initiated}
-use Rattle.parts.specs.Handshake.{HandshakeWithin, expireCookieOf}
+use Rattle.parts.specs.Handshake.{HandshakeWithin, expireCookie}
 use Rattle.parts.specs.RingBuffer.{RingWithin}
 use Rattle.parts.specs.Timers.{TimersWithin}
 use Rattle.parts.specs.declared.event.Event.{Event}
 use Rattle.parts.specs.declared.handshake.Handshake.{Handshake}
 use Rattle.parts.specs.declared.timers.Timers.{Timers}
-use Rattle.sessions.specs.Session.{caseReserved, emptySession}
+use Rattle.session.specs.Session.{caseReserved, emptySession}
 use Rattle.sessions.specs.Sessions.{caseFound, withSlots, withCurrent, Held, emptySlots, clear, slotAt, emptied, Expiring, discard, expireSlot, expireFirst, expire}
-use Rattle.sessions.specs.Store.{Leaves}
-use Rattle.sessions.specs.declared.session.Reserved.the-variants.{TooFew, First}
-use Rattle.sessions.specs.declared.session.Reserved.{Reserved}
-use Rattle.sessions.specs.declared.session.Session.{Session}
+use Rattle.session.specs.Store.{Leaves}
+use Rattle.session.specs.declared.session.Reserved.the-variants.{TooFew, First}
+use Rattle.session.specs.declared.session.Reserved.{Reserved}
+use Rattle.session.specs.declared.session.Session.{Session}
 use Rattle.sessions.specs.declared.sessions.Expired.{Expired}
 use Rattle.sessions.specs.declared.sessions.Found.the-variants.{Nothing, Got}
 use Rattle.sessions.specs.declared.sessions.Found.{Found}
@@ -119,8 +119,8 @@ module _ (c : Control) (most : ℕ) (w : ControlWithin c most) where
   with-sessions s v = record { timers = w .timers; handshake = w .handshake; first = w .first; sessions = v; events = w .events }
 
   -- the steps of the waking, as the code has them in locals
-  pub cookie-within : (h : Handshake) (now : ℕ) → h ≡ expireCookieOf (c .handshake) now → ControlWithin (withHandshake c h) most
-  unfolding expireCookieOf
+  pub cookie-within : (h : Handshake) (now : ℕ) → h ≡ expireCookie (c .handshake) now → ControlWithin (withHandshake c h) most
+  unfolding expireCookie
   cookie-within h now e =
       with-handshake h
       (rw e (of-choice (λ (y : Handshake). HandshakeWithin y most) _ _ (c .handshake) (on-clear-cookie (c .handshake) most (w .handshake)) (w .handshake)))

@@ -11,14 +11,13 @@ use Rattle.control.specs.Control.{Turn}
 use Rattle.control.specs.Messages.{respond, handleHandshakeInitiation, handleHandshakeResponse}
 use Rattle.control.specs.Transport.{Batched, commitDecapsulate}
 use Rattle.control.specs.declared.control.Control.{Control}
-use Rattle.sessions.proofs.Apart.{length-zeros, length-put}
 use Rattle.sessions.proofs.Received.{length-batch}
-use Rattle.sessions.proofs.Words.{slot-long}
+use Rattle.session.proofs.Words.{slot-long, length-zeros, length-put}
 use Rattle.sessions.specs.Batch.{Outcome, started, batchOf, receivingSession, commit, receive}
-use Rattle.sessions.specs.Index.{slotIn}
+use Rattle.session.specs.Index.{slotIn}
 use Rattle.sessions.specs.Sessions.{Held, insert, clear, Expiring, expireSlot, expireFirst, expire}
-use Rattle.sessions.specs.Store.{slotOf, putSlot, zeros}
-use Rattle.sessions.specs.declared.session.Session.{Session}
+use Rattle.session.specs.Store.{slotOf, putSlot, zeros}
+use Rattle.session.specs.declared.session.Session.{Session}
 use Rattle.sessions.specs.declared.sessions.Sessions.{Sessions}
 
 -- a store of 1,024 words

@@ -15,22 +15,22 @@ use Rattle.control.specs.declared.answer.Answer.the-variants.{No, Done, 
 use Rattle.control.specs.declared.control.Control.{Control}
 use Rattle.control.specs.declared.control.Out.{Out}
 use Rattle.control.specs.declared.transport.Datagram.the-variants.{Sent}
-use Rattle.parts.specs.Check.{limit}
 use Rattle.parts.specs.RingBuffer.{pushBack}
 use Rattle.parts.specs.Timers.{tickLastDataPacketSent, tickLastPacketSent, tickAccepted}
 use Rattle.parts.specs.declared.event.Event.the-variants.{Established}
 use Rattle.parts.specs.declared.ring_buffer.RingBuffer.{RingBuffer}
 use Rattle.parts.specs.declared.timers.Timers.{Timers}
-use Rattle.sessions.proofs.Cases.{is-got, is-too-few, is-first}
+use Rattle.session.proofs.Cases.{is-too-few, is-first}
+use Rattle.sessions.proofs.Cases.{is-got}
 use Rattle.sessions.specs.Batch.{Receives, receive}
-use Rattle.sessions.specs.Index.{slotIn}
-use Rattle.sessions.specs.Range.{range}
-use Rattle.sessions.specs.Session.{withCounter, reserveCounters, preparePacketData, expiredAt, willReceive}
+use Rattle.session.specs.Index.{slotIn}
+use Rattle.session.specs.Range.{range}
+use Rattle.session.specs.Session.{rejectAfterMessages, withCounter, reserveCounters, preparePacketData, expiredAt, willReceive}
 use Rattle.sessions.specs.Sessions.{put, sendingSession, setCurrent, inSlotOf}
 use Rattle.sessions.specs.declared.batch.Received.{Received}
-use Rattle.sessions.specs.declared.session.Reserved.the-variants.{TooFew, First}
-use Rattle.sessions.specs.declared.session.Reserved.{Reserved}
-use Rattle.sessions.specs.declared.session.Session.{Session}
+use Rattle.session.specs.declared.session.Reserved.the-variants.{TooFew, First}
+use Rattle.session.specs.declared.session.Reserved.{Reserved}
+use Rattle.session.specs.declared.session.Session.{Session}
 use Rattle.sessions.specs.declared.sessions.Found.the-variants.{Got}
 use Rattle.sessions.specs.declared.sessions.Found.{Found}
 use Rattle.sessions.specs.declared.sessions.Sessions.{Sessions}
@@ -51,7 +51,7 @@ of-fit s count first counted false p = let z : _≡_ {A = ℕ} 0 1 = cc in absur
 same-index : (s : Session) (count first : ℕ) (counted : Session) → reserveCounters s count ≡ First first counted
     → slotIn (counted .«receiving_index») ≡ slotIn (s .«receiving_index»)
 unfolding reserveCounters
-same-index s count first counted e = of-fit s count first counted (leb (s .«sending_key_counter» + count) limit) e
+same-index s count first counted e = of-fit s count first counted (leb (s .«sending_key_counter» + count) rejectAfterMessages) e
 
 module _ (c : Control) where
   -- counters asked of a session

@@ -22,8 +22,8 @@ use Rattle.parts.specs.declared.event.Event.the-variants.{
   ConnectionExpired,
 }
 use Rattle.parts.specs.declared.event.Event.{Event}
-use Rattle.sessions.specs.declared.session.Time.the-variants.{Never, At}
-use Rattle.sessions.specs.declared.session.Time.{Time}
+use Rattle.session.specs.declared.session.Time.the-variants.{Never, At}
+use Rattle.session.specs.declared.session.Time.{Time}
 
 -- the word after `ok`: `bare` where there is none, `turned` where the answer is a number that turns the call down
 pub data Word : Type 0 where

@@ -2,7 +2,9 @@
 use mathlib.Core.Bool.{Bool}
 use Prim.Native.Nat.{ℕ}
 use Rattle.control.specs.declared.control.Control.{Control}
-use Rattle.parts.specs.Check.{_and_, timeHolds, sessionsHold, eventsHold, handshakeHolds, timersHold}
+use Rattle.base.specs.Choice.{_and_}
+use Rattle.sessions.specs.Check.{sessionsHold}
+use Rattle.parts.specs.Check.{timeHolds, eventsHold, handshakeHolds, timersHold}
 
 -- the sessions and the events hold
 unfoldable pub storedHolds : Control → ℕ → Bool

@@ -1,5 +1,4 @@
 -- What the Rust's `Tunnel` holds, save `TimeLastUpdate`, and what an operation on it hands back, after src/tunnel.rs.
-use mathlib.Core.Path.{_≡_}
 use mathlib.Core.Bool.{Bool, true, false}
 use mathlib.Core.List.{List}
 use Prim.Native.Nat.{ℕ}
@@ -16,8 +15,8 @@ use Rattle.parts.specs.declared.ring_buffer.RingBuffer.{RingBuffer}
 use Rattle.parts.specs.declared.timers.Interval.{Interval}
 use Rattle.parts.specs.declared.timers.Timers.{Timers}
 use Rattle.sessions.specs.Sessions.{newSessions, caseMissing, missing}
-use Rattle.sessions.specs.declared.session.Time.the-variants.{Never}
-use Rattle.sessions.specs.declared.session.Time.{Time}
+use Rattle.session.specs.declared.session.Time.the-variants.{Never}
+use Rattle.session.specs.declared.session.Time.{Time}
 use Rattle.sessions.specs.declared.sessions.Sessions.{Sessions}
 
 -- a control of six parts

@@ -1,6 +1,5 @@
 -- The deadlines at which a waking has something to do, and the next of them, after `poll_timeout` and `next_deadline` of src/tunnel.rs. Each is
 -- one definition, which the waking tests too.
-use mathlib.Core.Bool.{Bool, true, false}
 use Prim.Native.Nat.{ℕ}
 use lib.Dec.{ltb}
 use Rattle.base.specs.Choice.{choose}
@@ -9,10 +8,10 @@ use Rattle.control.specs.declared.control.Control.{Control}
 use Rattle.parts.specs.Handshake.{cookieExpiration, inFlightInitiation}
 use Rattle.parts.specs.RingBuffer.{ringIsEmpty}
 use Rattle.parts.specs.Timers.{rejectAfterTimeOf, rekeyAttemptDeadline, rekeyAfterTimeWithoutResponse, keepaliveAfterTimeWithoutSend, nextPersistentKeepalive, rekeyTimeoutOf}
-use Rattle.sessions.specs.Session.{caseTime, earlier, rekeyAfterTimeOnSend, rejectAfterTimeOnReceive, rekeyAfterMessagesReached}
+use Rattle.session.specs.Session.{caseTime, earlier, rekeyAfterTimeOnSend, rejectAfterTimeOnReceive, rekeyAfterMessagesReached}
 use Rattle.sessions.specs.Sessions.{caseFound, currentOf, nextExpiry}
-use Rattle.sessions.specs.declared.session.Time.the-variants.{Never, At}
-use Rattle.sessions.specs.declared.session.Time.{Time}
+use Rattle.session.specs.declared.session.Time.the-variants.{Never, At}
+use Rattle.session.specs.declared.session.Time.{Time}
 use Rattle.sessions.specs.declared.sessions.Found.{Found}
 
 -- when the scheduled handshake is due
@@ -52,18 +51,16 @@ unfoldable pub foundOnReceive : Found → Time
 foundOnReceive found = caseFound found Never rejectAfterTimeOnReceive
 
 -- the rekey deadline of a current session that has sent data
-unfoldable pub rekeyOnSend : Control → Time
-rekeyOnSend c = caseFound (currentOf (c .sessions)) Never rekeyAfterTimeOnSend
+abbrev pub rekeyOnSend : Control → Time
+rekeyOnSend c = foundOnSend (currentOf (c .sessions))
 
 -- when the current session reached the number of messages after which to rekey
-unfoldable pub rekeyAfterMessages : Control → Time
-rekeyAfterMessages c =
-    caseFound (currentOf (c .sessions)) Never
-    (λ session. choose (rekeyAfterMessagesReached session) (At (c .timers .«time_last_packet_sent»)) Never)
+abbrev pub rekeyAfterMessages : Control → Time
+rekeyAfterMessages c = foundAfterMessages (currentOf (c .sessions)) (c .timers .«time_last_packet_sent»)
 
 -- the rekey deadline of a current session that has received data
-unfoldable pub rekeyOnReceive : Control → Time
-rekeyOnReceive c = caseFound (currentOf (c .sessions)) Never rejectAfterTimeOnReceive
+abbrev pub rekeyOnReceive : Control → Time
+rekeyOnReceive c = foundOnReceive (currentOf (c .sessions))
 
 -- the new-handshake deadline for data sent without a reply
 unfoldable pub responseDeadline : Control → Time

@@ -4,16 +4,16 @@ use mathlib.Core.Bool.{true}
 use mathlib.Core.List.{List, [], _∷_}
 use Prim.Native.Nat.{ℕ, _≤_, _<_}
 use Rattle.control.specs.declared.control.Control.{Control}
-use Rattle.parts.specs.Check.{limit}
 use Rattle.parts.specs.Handshake.{HandshakeWithin}
 use Rattle.parts.specs.RingBuffer.{RingWithin, queued}
 use Rattle.parts.specs.Timers.{TimeWithin, TimersWithin}
 use Rattle.parts.specs.declared.event.Event.the-variants.{Established}
 use Rattle.parts.specs.declared.event.Event.{Event}
 use Rattle.parts.specs.declared.ring_buffer.RingBuffer.{RingBuffer}
-use Rattle.sessions.specs.Index.{slotIn}
+use Rattle.session.specs.Session.{rejectAfterMessages}
+use Rattle.session.specs.Index.{slotIn}
 use Rattle.sessions.specs.Sessions.{slotAt}
-use Rattle.sessions.specs.declared.session.Session.{Session}
+use Rattle.session.specs.declared.session.Session.{Session}
 use Rattle.sessions.specs.declared.sessions.Found.the-variants.{Got}
 use Rattle.sessions.specs.declared.sessions.Found.{Found}
 use Rattle.sessions.specs.declared.sessions.Sessions.{Sessions}
@@ -21,8 +21,8 @@ use Rattle.sessions.specs.declared.sessions.Sessions.{Sessions}
 -- a session's time is at most this, its counters are at most LIMIT, and its index is of this slot
 pub record SlotWithin (s : Session) (slot most : ℕ) : Type 0 where
   pub established : s .«established_at» ≤ most
-  pub counter : s .«sending_key_counter» ≤ limit
-  pub next : s .next ≤ limit
+  pub counter : s .«sending_key_counter» ≤ rejectAfterMessages
+  pub next : s .next ≤ rejectAfterMessages
   pub index : slotIn (s .«receiving_index») ≡ slot
 
 -- every filled slot

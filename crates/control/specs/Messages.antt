@@ -1,7 +1,5 @@
 -- Handshake messages, sent and received, after `handle_handshake_initiation`, `handle_handshake_response`, `handle_cookie_reply`,
 -- `initiate_handshake` and `restart_handshake` of src/tunnel.rs.
-use mathlib.Core.Path.{_≡_}
-use mathlib.Core.Bool.{Bool}
 use mathlib.Core.List.{List}
 use Prim.Native.Nat.{ℕ}
 use Rattle.base.specs.Choice.{choose}
@@ -15,8 +13,8 @@ use Rattle.parts.specs.Handshake.{caseCompleted, caseCookie, isInProgress, init
 use Rattle.parts.specs.Timers.{getOr, tickCompleted, tickInitiation, tickResponse}
 use Rattle.parts.specs.declared.handshake.Handshake.{Handshake}
 use Rattle.sessions.specs.Sessions.{nextIndex, insert, setCurrent}
-use Rattle.sessions.specs.declared.session.Session.{Session}
-use Rattle.sessions.specs.declared.session.Time.the-variants.{At}
+use Rattle.session.specs.declared.session.Session.{Session}
+use Rattle.session.specs.declared.session.Time.the-variants.{At}
 
 -- the control after an answered initiation
 unfoldable pub responding : Control → Handshake → List ℕ → Session → ℕ → Control

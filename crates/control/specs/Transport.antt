@@ -16,11 +16,11 @@ use Rattle.control.specs.declared.transport.Encrypted.{Encrypted}
 use Rattle.parts.specs.Timers.{tickLastDataPacketReceived, tickLastDataPacketSent, tickLastPacketReceived, tickLastPacketSent}
 use Rattle.parts.specs.declared.event.Event.the-variants.{Established}
 use Rattle.sessions.specs.Batch.{Outcome, receive}
-use Rattle.sessions.specs.Range.{range}
-use Rattle.sessions.specs.Session.{caseReserved, expiredAt, preparePacketData, reserveCounters, willReceive}
+use Rattle.session.specs.Range.{range}
+use Rattle.session.specs.Session.{caseReserved, expiredAt, preparePacketData, reserveCounters, willReceive}
 use Rattle.sessions.specs.Sessions.{caseFound, inSlotOf, put, sendingSession, setCurrent}
 use Rattle.sessions.specs.declared.batch.Received.{Received}
-use Rattle.sessions.specs.declared.session.Session.{Session}
+use Rattle.session.specs.declared.session.Session.{Session}
 
 module _ {A : Type 0} where
   -- one value for a keepalive that was skipped, one for each that was sent

@@ -1,7 +1,7 @@
 // What a call answers.
 use parts::event::Event;
-use sessions::range::Range;
-use sessions::session::Time;
+use session::range::Range;
+use session::session::Time;
 
 pub enum Answer {
     // The number that turns the call down.

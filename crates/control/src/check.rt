@@ -3,12 +3,12 @@
 use crate::control::Control;
 use parts::check::events_hold;
 use parts::check::handshake_holds;
-use parts::check::sessions_hold;
 use parts::check::time_holds;
 use parts::check::timers_hold;
+use sessions::check::sessions_hold;
 ghost use mathlib.Core.Path.{_≡_};
 ghost use Prim.Native.Nat.{_≤_};
-ghost use Rattle.sessions.specs.Session.{timeLimit};
+ghost use Rattle.session.specs.Session.{timeLimit};
 ghost use Rattle.control.specs.Check.{storedHolds, controlHolds};
 
 // The control, below a greatest time that is within the limit.

@@ -5,7 +5,7 @@ use parts::handshake::Handshake;
 use parts::ring_buffer::RingBuffer;
 use parts::timers::Interval;
 use parts::timers::Timers;
-use sessions::session::Time;
+use session::session::Time;
 use sessions::sessions::Missing;
 use sessions::sessions::Sessions;
 ghost use mathlib.Core.Path.{_≡_};

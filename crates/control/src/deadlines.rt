@@ -1,13 +1,13 @@
 // The deadlines at which a waking has something to do, and the next of them.
 use crate::control::Control;
 use parts::timers::rekey_timeout;
-use sessions::session::Time;
-use sessions::session::earlier;
+use session::session::Time;
+use session::session::earlier;
 use sessions::sessions::Found;
 ghost use mathlib.Core.Path.{_≡_};
 ghost use lib.Dec.{ltb};
 ghost use Rattle.base.specs.Choice.{choose};
-ghost use Rattle.sessions.specs.Session.{timeLimit};
+ghost use Rattle.session.specs.Session.{timeLimit};
 ghost use Rattle.sessions.specs.Sessions.{currentOf};
 ghost use Rattle.control.specs.Deadlines.{scheduledHandshake, handshakeRekeyTimeout, foundOnSend, foundAfterMessages, foundOnReceive, currentPersistentDeadline, commonDeadline, rekeyDeadline, keepaliveDeadline, nextDeadline, unscheduledDeadline, pollTimeout, notBefore};
 ghost use Rattle.control.specs.Facts.{FoundWithin, ControlWithin};

@@ -7,11 +7,11 @@ use parts::handshake::Completed;
 use parts::handshake::Cookie;
 use parts::handshake::Handshake;
 use parts::timers::get_or;
-use sessions::session::Session;
-use sessions::session::Time;
+use session::session::Session;
+use session::session::Time;
 ghost use mathlib.Core.Path.{_≡_};
 ghost use Rattle.sessions.specs.Sessions.{insert};
-ghost use Rattle.sessions.specs.Store.{Leaves};
+ghost use Rattle.session.specs.Store.{Leaves};
 ghost use Rattle.control.specs.Messages.{responding, respond, handleHandshakeInitiation, confirming, establish, complete, handleHandshakeResponse, handleCookieReply, initiate, restartHandshake, startHandshake};
 ghost use Rattle.parts.specs.RingBuffer.{RingWithin};
 

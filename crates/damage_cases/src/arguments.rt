@@ -15,7 +15,6 @@ use crate::request::WAKING;
 use crate::request::good;
 use crate::sound::GREATEST;
 use crate::tally::Tally;
-use crate::tally::no_cases;
 use tunnel::tunnel::TIME_LIMIT;
 
 // Every call that has a time, at a time above the limit.

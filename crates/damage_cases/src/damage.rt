@@ -16,8 +16,8 @@ use parts::ring_buffer::RingBuffer;
 use parts::ring_buffer::Slot;
 use parts::timers::Interval;
 use parts::timers::Timers;
-use sessions::session::Session;
-use sessions::session::Time;
+use session::session::Session;
+use session::session::Time;
 use sessions::sessions::Sessions;
 use tunnel::tunnel::Tunnel;
 

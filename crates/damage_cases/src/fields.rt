@@ -1,7 +1,7 @@
 // The fields of the sound tunnel by number, and their values at the edge of what number 14 lets through and just beyond it.
 use crate::sound::GREATEST;
 use parts::timers::MAX_JITTER;
-use sessions::session::REJECT_AFTER_MESSAGES;
+use session::session::REJECT_AFTER_MESSAGES;
 use tunnel::tunnel::TIME_LIMIT;
 
 // The greatest time.

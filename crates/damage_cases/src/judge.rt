@@ -5,7 +5,7 @@ use crate::request::INITIATION;
 use crate::request::Request;
 use crate::same::same_tunnel;
 use control::answer::Answer;
-use sessions::session::Time;
+use session::session::Time;
 use tunnel::tunnel::Answered;
 use tunnel::tunnel::Tunnel;
 

@@ -15,7 +15,7 @@ use parts::event::Event;
 use parts::ring_buffer::RingBuffer;
 use parts::ring_buffer::Slot;
 use parts::timers::Timers;
-use sessions::session::Time;
+use session::session::Time;
 use sessions::sessions::Sessions;
 use tunnel::tunnel::Tunnel;
 

@@ -15,11 +15,11 @@ use Rattle.control.specs.declared.answer.Answer.{Answer}
 use Rattle.demands.specs.Calls.Call.{send, timeout, deadline}
 use Rattle.demands.specs.Calls.{Call, World, step, after}
 use Rattle.demands.specs.Wakings.{Step, shared, extra, wokenCalls, Ran, ran, ranAfter, Current, Expired, BeforeDeadline, timeOf, NotEarlier, ComesEarly, CurrentOrUnset, InOrder}
-use Rattle.sessions.specs.Session.{caseTime}
+use Rattle.session.specs.Session.{caseTime}
 use Rattle.sessions.specs.Sessions.{caseFound, currentOf}
-use Rattle.sessions.specs.declared.session.Session.{Session}
-use Rattle.sessions.specs.declared.session.Time.the-variants.{Never, At}
-use Rattle.sessions.specs.declared.session.Time.{Time}
+use Rattle.session.specs.declared.session.Session.{Session}
+use Rattle.session.specs.declared.session.Time.the-variants.{Never, At}
+use Rattle.session.specs.declared.session.Time.{Time}
 use Rattle.sessions.specs.declared.sessions.Found.the-variants.{Nothing, Got}
 use Rattle.sessions.specs.declared.sessions.Found.{Found}
 

@@ -20,10 +20,10 @@ use Rattle.demands.specs.Calls.{Call, World, step, after, Creation, crea
 use Rattle.demands.specs.Made.{made, insertions}
 use Rattle.demands.specs.Receiving.{committed, historyOf}
 use Rattle.demands.specs.Sending.{Grant, wokenGrant, answeredGrant, wokenGrants, grants, upFrom, countersOf}
-use Rattle.sessions.proofs.Apart.{length-zeros}
-use Rattle.sessions.specs.Session.{emptySession}
+use Rattle.session.proofs.Words.{length-zeros}
+use Rattle.session.specs.Session.{emptySession}
 use Rattle.sessions.specs.Sessions.{emptySlots, newSessions}
-use Rattle.sessions.specs.Store.{zeros}
+use Rattle.session.specs.Store.{zeros}
 use Rattle.tunnel.specs.Sound.{Sound}
 use Rattle.tunnel.specs.Tunnel as calls
 use Rattle.tunnel.specs.Tunnel.{Called, answered, callNew, refused}

@@ -13,18 +13,17 @@ use Rattle.control.proofs.Steps.{of-choice}
 use Rattle.demands.proofs.Held.{from-on, long-from, counters-on, counters-own, counters-other, append-nothing, Runs, SlotHeld, Held, Changed, held-changed}
 use Rattle.demands.proofs.Moves.{InSlot, received-slot, put-at, changed-put}
 use Rattle.demands.specs.Sending.{Grant, granting, upFrom, countersOf}
-use Rattle.sessions.proofs.Apart.{length-zeros, length-put}
 use Rattle.sessions.proofs.Judged.{batch-law, fresh-law}
 use Rattle.sessions.proofs.Received.{length-batch, progress-index, slots-apart}
-use Rattle.sessions.proofs.Words.{slot-long}
+use Rattle.session.proofs.Words.{slot-long, length-zeros, length-put}
 use Rattle.sessions.specs.Batch.{Outcome, receivingSession, batchOf, withProgress, receive, commit, committedTo, answered, fits}
 use Rattle.sessions.specs.History.{recordedAll, Call, Live, BatchLaw}
-use Rattle.sessions.specs.Index.{slotIn}
+use Rattle.session.specs.Index.{slotIn}
 use Rattle.sessions.specs.Laws.{Kept}
-use Rattle.sessions.specs.Session.{withId}
+use Rattle.session.specs.Session.{withId}
 use Rattle.sessions.specs.Sessions.{caseFound, slotAt, put, inserting, insert}
-use Rattle.sessions.specs.Store.{slotOf, putSlot, zeros}
-use Rattle.sessions.specs.declared.session.Session.{Session}
+use Rattle.session.specs.Store.{slotOf, putSlot, zeros}
+use Rattle.session.specs.declared.session.Session.{Session}
 use Rattle.sessions.specs.declared.sessions.Found.the-variants.{Got}
 use Rattle.sessions.specs.declared.sessions.Sessions.{Sessions}
 use Rattle.window.specs.Window.{limit}

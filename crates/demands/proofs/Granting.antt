@@ -25,12 +25,12 @@ use Rattle.demands.proofs.Moves.{InSlot, current-slot, put-at, changed-
 use Rattle.demands.specs.Made.{caseAnswer}
 use Rattle.demands.specs.Sending.{Grant, granting}
 use Rattle.parts.specs.Timers.{tickLastPacketSent}
-use Rattle.sessions.specs.Index.{slotIn}
-use Rattle.sessions.specs.Range.{range}
-use Rattle.sessions.specs.Session.{withCounter, reserveCounters, preparePacketData}
+use Rattle.session.specs.Index.{slotIn}
+use Rattle.session.specs.Range.{range}
+use Rattle.session.specs.Session.{withCounter, reserveCounters, preparePacketData}
 use Rattle.sessions.specs.Sessions.{slotAt, put, currentOf, sendingSession}
-use Rattle.sessions.specs.declared.session.Reserved.the-variants.{TooFew, First}
-use Rattle.sessions.specs.declared.session.Session.{Session}
+use Rattle.session.specs.declared.session.Reserved.the-variants.{TooFew, First}
+use Rattle.session.specs.declared.session.Session.{Session}
 use Rattle.sessions.specs.declared.sessions.Found.the-variants.{Got}
 use Rattle.sessions.specs.declared.sessions.Sessions.{Sessions}
 use Rattle.window.specs.Window.{limit}

@@ -12,10 +12,10 @@ use lib.ListN.{length}
 use borrow.Author.Tests.{eq-eqb, ne-eqb}
 use Rattle.base.specs.Choice.{choose}
 use Rattle.demands.specs.Sending.{Grant, granting, upFrom, countersOf}
-use Rattle.sessions.specs.Index.{slotIn}
+use Rattle.session.specs.Index.{slotIn}
 use Rattle.sessions.specs.Sessions.{slotAt}
-use Rattle.sessions.specs.Store.{slotOf}
-use Rattle.sessions.specs.declared.session.Session.{Session}
+use Rattle.session.specs.Store.{slotOf}
+use Rattle.session.specs.declared.session.Session.{Session}
 use Rattle.sessions.specs.declared.sessions.Sessions.{Sessions}
 use Rattle.window.specs.History.{Represents}
 use Rattle.window.specs.Window.{limit}

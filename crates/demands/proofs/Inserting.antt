@@ -28,10 +28,10 @@ use Rattle.parts.specs.Handshake.{caseCompleted, receiveHandshakeInitialization
 use Rattle.parts.specs.declared.handshake.Completed.the-variants.{Failed, Opened}
 use Rattle.parts.specs.declared.handshake.Completed.{Completed}
 use Rattle.parts.specs.declared.handshake.Handshake.{Handshake}
-use Rattle.sessions.specs.Session.{newSession, withId}
+use Rattle.session.specs.Session.{newSession, withId}
 use Rattle.sessions.specs.Sessions.{currentOf, insert, nextIndex}
-use Rattle.sessions.specs.declared.session.Role.the-variants.{Initiator, Responder}
-use Rattle.sessions.specs.declared.session.Session.{Session}
+use Rattle.session.specs.declared.session.Role.the-variants.{Initiator, Responder}
+use Rattle.session.specs.declared.session.Session.{Session}
 use Rattle.sessions.specs.declared.sessions.Found.the-variants.{Got}
 
 -- what a handshake message does: nothing is inserted, a session is inserted, or one is inserted that grants its first counter

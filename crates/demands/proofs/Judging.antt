@@ -22,8 +22,8 @@ use Rattle.demands.specs.Sending.{Grant}
 use Rattle.sessions.specs.Batch.{Outcome, batchOf, refused, answered, untouched, committedTo, fits, receivingSession, commit, receive}
 use Rattle.sessions.specs.History.{recordedAll}
 use Rattle.sessions.specs.Sessions.{caseFound}
-use Rattle.sessions.specs.Store.{whole}
-use Rattle.sessions.specs.declared.session.Session.{Session}
+use Rattle.session.specs.Store.{whole}
+use Rattle.session.specs.declared.session.Session.{Session}
 use Rattle.sessions.specs.declared.sessions.Found.the-variants.{Nothing, Got}
 use Rattle.sessions.specs.declared.sessions.Found.{Found}
 

@@ -25,8 +25,8 @@ use Rattle.parts.specs.declared.event.Event.{Event}
 use Rattle.parts.specs.declared.handshake.Cookie.the-variants.{Unusable, Stored}
 use Rattle.parts.specs.declared.handshake.Cookie.{Cookie}
 use Rattle.sessions.specs.Sessions.{caseMissing}
-use Rattle.sessions.specs.declared.range.Range.{Range}
-use Rattle.sessions.specs.declared.session.Time.{Time}
+use Rattle.session.specs.declared.range.Range.{Range}
+use Rattle.session.specs.declared.session.Time.{Time}
 use Rattle.sessions.specs.declared.sessions.Missing.the-variants.{Refused, Count}
 use Rattle.sessions.specs.declared.sessions.Missing.{Missing}
 

@@ -20,8 +20,8 @@ use Rattle.demands.specs.Sending.{Grant}
 use Rattle.sessions.proofs.Judged.{missing-law}
 use Rattle.sessions.specs.Sessions as sessions
 use Rattle.sessions.specs.Sessions.{caseFound, caseMissing, slotAt, inSlotOf, get}
-use Rattle.sessions.specs.Store.{slotOf}
-use Rattle.sessions.specs.declared.session.Session.{Session}
+use Rattle.session.specs.Store.{slotOf}
+use Rattle.session.specs.declared.session.Session.{Session}
 use Rattle.sessions.specs.declared.sessions.Found.the-variants.{Got}
 use Rattle.sessions.specs.declared.sessions.Missing.the-variants.{Count}
 use Rattle.sessions.specs.declared.sessions.Sessions.{Sessions}

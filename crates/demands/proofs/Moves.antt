@@ -13,14 +13,15 @@ use borrow.Author.Tests.{eqb-true}
 use Rattle.base.specs.Choice.{choose}
 use Rattle.control.proofs.Steps.{of-choice, of-found}
 use Rattle.demands.proofs.Held.{Carried, carried-same, carried-on, Changed}
-use Rattle.sessions.proofs.Apart.{length-zeros, length-put, kept-other}
+use Rattle.session.proofs.Words.{length-zeros, length-put}
+use Rattle.sessions.proofs.Apart.{kept-other}
 use Rattle.sessions.specs.Batch.{receivingSession}
-use Rattle.sessions.specs.Index.{slotIn}
+use Rattle.session.specs.Index.{slotIn}
 use Rattle.sessions.specs.Laws.{Kept}
-use Rattle.sessions.specs.Session.{emptySession, newSession, expiredAt}
+use Rattle.session.specs.Session.{emptySession, newSession, expiredAt}
 use Rattle.sessions.specs.Sessions.{caseFound, caseSelected, slotAt, emptySlots, Held, inSlotOf, get, put, currentOf, nextIndex, select, setCurrent, clear, emptied, Expiring, discard, expireSlot, expireFirst, expire, insert}
-use Rattle.sessions.specs.Store.{putSlot, zeros}
-use Rattle.sessions.specs.declared.session.Session.{Session}
+use Rattle.session.specs.Store.{putSlot, zeros}
+use Rattle.session.specs.declared.session.Session.{Session}
 use Rattle.sessions.specs.declared.sessions.Expired.{Expired}
 use Rattle.sessions.specs.declared.sessions.Found.the-variants.{Nothing, Got}
 use Rattle.sessions.specs.declared.sessions.Found.{Found}

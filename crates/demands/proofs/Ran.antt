@@ -14,7 +14,7 @@ use Rattle.demands.proofs.Twins.{deadline-still}
 use Rattle.demands.specs.Calls.Call.{start, restart, send, receive, look, initiation, response, cookie, timeout, event, deadline, missing}
 use Rattle.demands.specs.Calls.{Call, World, step}
 use Rattle.demands.specs.Wakings.{Ran, took, ran}
-use Rattle.sessions.specs.Session.{timeLimit}
+use Rattle.session.specs.Session.{timeLimit}
 use Rattle.tunnel.specs.Check.{undamaged}
 use Rattle.tunnel.specs.Tunnel.{gate, timelessGate, refused, settled, timed, timeless, kept, timedTurn, timedBatch, callStart, callRestart, callSend, callReceive, callLook, callInitiation, callResponse, callCookie, callTimeout, callEvent, callMissing}
 use Rattle.tunnel.specs.declared.tunnel.Answered.{Answered}

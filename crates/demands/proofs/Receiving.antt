@@ -22,8 +22,8 @@ use Rattle.demands.specs.Sending.{Grant}
 use Rattle.sessions.proofs.Batches.{fits-ready}
 use Rattle.sessions.specs.Batch.{Outcome, fits, receivingSession, receive}
 use Rattle.sessions.specs.History.{recordedAll, verdictsOn, Call, BatchLaw}
-use Rattle.sessions.specs.Index.{slotIn}
-use Rattle.sessions.specs.Session.{expiredAt}
+use Rattle.session.specs.Index.{slotIn}
+use Rattle.session.specs.Session.{expiredAt}
 use Rattle.sessions.specs.Sessions.{caseFound, slotAt, inSlotOf, get}
 use Rattle.sessions.specs.declared.sessions.Found.the-variants.{Got}
 use Rattle.sessions.specs.declared.sessions.Sessions.{Sessions}

@@ -24,8 +24,8 @@ use Rattle.demands.specs.Sending.Among.{here, there}
 use Rattle.demands.specs.Sending.{Grant, Among, currentIn, putBy, upFrom, Sending}
 use Rattle.parts.specs.declared.event.Event.the-variants.{Empty, SendKeepalive}
 use Rattle.parts.specs.declared.event.Event.{Event}
-use Rattle.sessions.specs.declared.range.Range.{Range}
-use Rattle.sessions.specs.declared.session.Session.{Session}
+use Rattle.session.specs.declared.range.Range.{Range}
+use Rattle.session.specs.declared.session.Session.{Session}
 use Rattle.sessions.specs.declared.sessions.Found.the-variants.{Got}
 use Rattle.tunnel.specs.Tunnel.{refused, settled, timed, timeless, callSend, callEvent}
 use Rattle.tunnel.specs.declared.tunnel.Answered.{Answered}

@@ -8,7 +8,7 @@ use Rattle.control.proofs.Opened.{known-completed, known-cookie}
 use Rattle.control.proofs.SoundOperations.{of-missing}
 use Rattle.control.proofs.SoundSending.{of-datagram}
 use Rattle.control.proofs.Steps.{of-choice, of-found, of-reserved}
-use Rattle.control.specs.Control.{Inner, Turn, refuse, done, queueing, pollEvent, missingReport}
+use Rattle.control.specs.Control.{Inner, Turn, refuse, done, queueing, pollEvent, missingReport, withTimers}
 use Rattle.control.specs.Messages.{responding, respond, handleHandshakeInitiation, confirming, establish, complete, handleHandshakeResponse, handleCookieReply, initiating, initiate, restartHandshake, startHandshake}
 use Rattle.control.specs.Transport as transport
 use Rattle.control.specs.Transport.{beginEncapsulate, finishEncapsulate, grant, encryptKeepalive, confirmFirstSession, selecting, accept, batched, committed, commitDecapsulate, beginDecapsulate}
@@ -21,12 +21,12 @@ use Rattle.parts.specs.Timers.{clearTimers, tickLastHandshakeCompleted, tickLas
 use Rattle.parts.specs.declared.timers.Interval.{Interval}
 use Rattle.parts.specs.declared.timers.Timers.{Timers}
 use Rattle.sessions.specs.declared.batch.Received.{Received}
-use Rattle.sessions.specs.declared.session.Session.{Session}
+use Rattle.session.specs.declared.session.Session.{Session}
 use Rattle.tunnel.specs.Tunnel.{refused, settled, timed, timeless, timedTurn, timedBatch, callStart, callRestart, callSend, callReceive, callLook, callInitiation, callResponse, callCookie, callTimeout, callEvent, callDeadline, callMissing}
 use Rattle.tunnel.specs.declared.tunnel.Answered.{Answered}
 use Rattle.tunnel.specs.declared.tunnel.Tunnel.{Tunnel}
 use Rattle.waking.proofs.Wakings.{WakingKeeps, of-wake}
-use Rattle.waking.specs.Waking.{clearAll, expireControl, scheduling, queueKeepalive, persistentKeepalive, keepalives, expireCookie, sendScheduled, handleTimeout}
+use Rattle.waking.specs.Waking.{clearAll, expireControl, scheduling, queueKeepalive, passiveTimers, keepaliveTimers, sendKeepalive, keepalives, sendScheduled, handleTimeout}
 
 module _ (interval : Interval) where
   -- timers, a control and what holds one have this setting
@@ -133,22 +133,25 @@ module _ (interval : Interval) where
   unfolding queueKeepalive queueing
   on-queue-keepalive c now h = of-datagram Set _ _ _ (on-keepalive c now h) (λ a b. on-keepalive c now h)
 
-  on-persistent : (c : Control) (required : Bool) (now : ℕ) → Set c → Set (persistentKeepalive c required now)
-  unfolding persistentKeepalive tickPersistentKeepalive
-  on-persistent c required now h = of-choice Set _ _ _ (on-queue-keepalive _ now h) (of-choice Set _ _ _ (on-queue-keepalive c now h) h)
+  on-passive : (c : Control) (now : ℕ) → Set c → Set (withTimers c (passiveTimers c now))
+  unfolding passiveTimers consumePassiveKeepalive
+  on-passive c now h = of-choice (λ (t : Timers). Set (withTimers c t)) _ _ _ h h
 
   on-keepalives : (c : Control) (now : ℕ) → Set c → Set (keepalives c now)
-  unfolding keepalives consumePassiveKeepalive
-  on-keepalives c now h = of-choice Set _ _ _ (on-persistent _ _ now h) (on-persistent c _ now h)
+  unfolding keepalives sendKeepalive keepaliveTimers tickPersistentKeepalive
+  on-keepalives c now h =
+      of-choice Set _ _ _
+      (on-queue-keepalive _ now (of-choice (λ (t : Timers). Set (withTimers c t)) _ _ _ (on-passive c now h) (on-passive c now h)))
+      h
 
   waking-keeps : (jitter now : ℕ) → WakingKeeps (λ (c : Control) (store : List ℕ). Set c) jitter now
-  unfolding sendScheduled queueing cancelScheduledHandshake scheduling scheduleHandshake expireCookie
+  unfolding sendScheduled queueing cancelScheduledHandshake scheduling scheduleHandshake
   waking-keeps jitter now =
       record {
         sends = λ c store h. on-initiate _ now h;
         schedules = λ c store h. h;
         keeps-alive = λ c store h. on-keepalives c now h;
-        drops = λ c store h. of-choice Set _ _ _ h h;
+        drops = λ c store h. h;
         ends = λ c store h. on-expired c store now h;
         expires = λ c store h. h;
       }

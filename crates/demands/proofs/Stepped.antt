@@ -40,7 +40,7 @@ use Rattle.parts.specs.declared.event.Event.the-variants.{Empty, SendKeepalive}
 use Rattle.parts.specs.declared.event.Event.{Event}
 use Rattle.sessions.specs.History.{recordedAll}
 use Rattle.sessions.specs.Sessions.{caseFound, currentOf}
-use Rattle.sessions.specs.declared.session.Session.{Session}
+use Rattle.session.specs.declared.session.Session.{Session}
 use Rattle.sessions.specs.declared.sessions.Found.the-variants.{Got}
 use Rattle.tunnel.proofs.Framed.{gate-onward}
 use Rattle.tunnel.proofs.SoundCalls.{its-control}

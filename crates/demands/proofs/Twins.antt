@@ -21,9 +21,9 @@ use Rattle.demands.specs.Calls.{Call, World, Reply, plain, stored, judge
 use Rattle.demands.specs.Wakings.Alike.{equal, come}
 use Rattle.demands.specs.Wakings.{timeOf, NotEarlier, Alike, Same}
 use Rattle.parts.specs.RingBuffer.{ringIsEmpty}
-use Rattle.sessions.specs.Session.{caseTime}
-use Rattle.sessions.specs.declared.session.Time.the-variants.{Never, At}
-use Rattle.sessions.specs.declared.session.Time.{Time}
+use Rattle.session.specs.Session.{caseTime}
+use Rattle.session.specs.declared.session.Time.the-variants.{Never, At}
+use Rattle.session.specs.declared.session.Time.{Time}
 use Rattle.tunnel.proofs.Deadline.{deadline-law}
 use Rattle.tunnel.proofs.Facts.{undamaged-facts}
 use Rattle.tunnel.specs.Arguments.{openingOutcome, initiationOutcome, lacking, badOutcome, badJitter, badBatch}

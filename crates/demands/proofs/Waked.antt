@@ -1,7 +1,7 @@
 -- What is known after a waking: it puts at most one event into the ring, and a keepalive that it puts there is a grant of the current session.
 -- Assumes nothing.
 use mathlib.Core.Path.{_≡_, refl, ap, _∙_}
-use mathlib.Core.Bool.{Bool, true, false}
+use mathlib.Core.Bool.{Bool, false}
 use mathlib.Core.List.{List, [], _∷_, _++_}
 use Prim.Native.Nat.{ℕ}
 use native.Mathlib.Omega.{arith}
@@ -24,15 +24,15 @@ use Rattle.parts.specs.RingBuffer.{pushBack}
 use Rattle.parts.specs.declared.event.Event.the-variants.{SendHandshakeInitiation, SendKeepalive, ConnectionExpired}
 use Rattle.parts.specs.declared.event.Event.{Event}
 use Rattle.parts.specs.declared.ring_buffer.RingBuffer.{RingBuffer}
-use Rattle.sessions.specs.Session.{caseTime}
+use Rattle.session.specs.Session.{caseTime}
 use Rattle.sessions.specs.Sessions.{currentOf, expire, clear}
-use Rattle.sessions.specs.declared.session.Session.{Session}
-use Rattle.sessions.specs.declared.session.Time.the-variants.{Never, At}
-use Rattle.sessions.specs.declared.session.Time.{Time}
+use Rattle.session.specs.declared.session.Session.{Session}
+use Rattle.session.specs.declared.session.Time.the-variants.{Never, At}
+use Rattle.session.specs.declared.session.Time.{Time}
 use Rattle.sessions.specs.declared.sessions.Found.the-variants.{Got}
 use Rattle.sessions.specs.declared.sessions.Found.{Found}
 use Rattle.sessions.specs.declared.sessions.Sessions.{Sessions}
-use Rattle.waking.specs.Waking.{inner, clearAll, expireControl, scheduling, queueKeepalive, persistentKeepalive, keepalives, wakeIdle, wakeInProgress, expireCookie, wakeLater, wakeRest, wakeCurrent, wakeSessions, sendScheduled, wake}
+use Rattle.waking.specs.Waking.{inner, clearAll, expireControl, scheduling, queueKeepalive, sendKeepalive, keepalives, wakeIdle, wakeInProgress, wakeLater, wakeRest, wakeCurrent, wakeSessions, sendScheduled, wake}
 
 -- an event that is no grant
 pub record Ungranted (event : Event) : Type 0 where
@@ -101,15 +101,9 @@ module _ (c : Control) (store : List ℕ) where
     queued-keepalive = of-keepalive (encryptKeepalive d now) (encrypts d left now)
 
   module _ (left : List ℕ) (now : ℕ) where
-    persistent : (d : Control) (required : Bool) → From (d .sessions) (d .events) left → Waked (persistentKeepalive d required now) left
-    unfolding persistentKeepalive
-    persistent d required f =
-        of-choice (λ (y : Control). Waked y left) _ _ _ (queued-keepalive _ left now f)
-        (of-choice (λ (y : Control). Waked y left) _ _ _ (queued-keepalive d left now f) (silent (f .held) (f .ring)))
-
     kept-alive : (d : Control) → From (d .sessions) (d .events) left → Waked (keepalives d now) left
-    unfolding keepalives
-    kept-alive d f = of-choice (λ (y : Control). Waked y left) _ _ _ (persistent _ true f) (persistent d false f)
+    unfolding keepalives sendKeepalive
+    kept-alive d f = of-choice (λ (y : Control). Waked y left) _ _ _ (queued-keepalive _ left now f) (silent (f .held) (f .ring))
 
     module _ (jitter : ℕ) (required : Bool) where
       scheduled : (d : Control) → From (d .sessions) (d .events) left → Waked (scheduling d jitter now) left
@@ -143,14 +137,10 @@ module _ (c : Control) (store : List ℕ) where
       unfolding wakeLater
       later d f = of-choice (λ (y : Inner). Waked (y .control) (y .store)) _ _ _ (ended d left now f) (of-retry _ d f)
 
-      from-cookie : (d : Control) → From (d .sessions) (d .events) left → From (expireCookie d now .sessions) (expireCookie d now .events) left
-      unfolding expireCookie
-      from-cookie d f = of-choice (λ (y : Control). From (y .sessions) (y .events) left) _ _ _ f f
-
       rest : (d : Control) → From (d .sessions) (d .events) left
           → Waked (wakeRest d left required jitter now .control) (wakeRest d left required jitter now .store)
       unfolding wakeRest
-      rest d f = later (expireCookie d now) (from-cookie d f)
+      rest d f = later _ f
 
     woken-current : (d : Control) (expired : Found) (jitter : ℕ) → From (d .sessions) (d .events) left
         → Waked (wakeCurrent d left expired jitter now .control) (wakeCurrent d left expired jitter now .store)

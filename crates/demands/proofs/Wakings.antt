@@ -28,11 +28,11 @@ use Rattle.demands.specs.Wakings.{Step, shared, extra, plainCalls, woken
 use Rattle.parts.specs.RingBuffer.{ringIsEmpty}
 use Rattle.parts.specs.Timers.{newTimers}
 use Rattle.parts.specs.declared.timers.Interval.the-variants.{Off}
-use Rattle.sessions.specs.Session.{caseTime, dueBy, timeLimit}
-use Rattle.sessions.specs.Store.{zeros}
-use Rattle.sessions.specs.declared.session.Session.{Session}
-use Rattle.sessions.specs.declared.session.Time.the-variants.{Never, At}
-use Rattle.sessions.specs.declared.session.Time.{Time}
+use Rattle.session.specs.Session.{caseTime, dueBy, timeLimit}
+use Rattle.session.specs.Store.{zeros}
+use Rattle.session.specs.declared.session.Session.{Session}
+use Rattle.session.specs.declared.session.Time.the-variants.{Never, At}
+use Rattle.session.specs.declared.session.Time.{Time}
 use Rattle.tunnel.proofs.Deadline.{deadline-law}
 use Rattle.tunnel.proofs.Facts.{undamaged-facts}
 use Rattle.tunnel.proofs.Framed.{gate-onward}

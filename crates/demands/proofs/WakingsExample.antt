@@ -10,7 +10,7 @@ use Rattle.base.specs.Choice.{choose}
 use Rattle.control.specs.Answer.{numberOf}
 use Rattle.control.specs.Check.{storedHolds, controlHolds}
 use Rattle.control.specs.Control.{newControl, refuse, done, expiredControl, queueing, pollEvent}
-use Rattle.control.specs.Deadlines.{scheduledHandshake, earliestExpiry, cookieDeadline, rejectDeadline, attemptDeadline, handshakeRekeyTimeout, rekeyOnSend, rekeyAfterMessages, rekeyOnReceive, responseDeadline, passiveDeadline, persistentDeadline, currentPersistentDeadline, commonDeadline, rekeyDeadline, keepaliveDeadline, unscheduledDeadline, nextDeadline, notBefore, pollTimeout}
+use Rattle.control.specs.Deadlines.{scheduledHandshake, earliestExpiry, cookieDeadline, rejectDeadline, attemptDeadline, handshakeRekeyTimeout, foundOnSend, foundAfterMessages, foundOnReceive, responseDeadline, passiveDeadline, persistentDeadline, currentPersistentDeadline, commonDeadline, rekeyDeadline, keepaliveDeadline, unscheduledDeadline, nextDeadline, notBefore, pollTimeout}
 use Rattle.control.specs.Messages.{confirming, establish, complete, handleHandshakeResponse, initiating, initiate, restartHandshake, startHandshake}
 use Rattle.control.specs.Transport as transport
 use Rattle.control.specs.Transport.{caseDatagram, beginEncapsulate, finishEncapsulate, grant, encryptKeepalive, confirmFirstSession}
@@ -22,22 +22,23 @@ use Rattle.demands.specs.Calls.{Call, Good, step, after, created}
 use Rattle.demands.specs.Wakings.Alike.{equal, come}
 use Rattle.demands.specs.Wakings.{Step, shared, extra, plainCalls, wokenCalls, took, ran, ranNew, Expired, timeOf, Alike, Agree, CreatedAlike}
 use Rattle.demands.specs.WakingsExample.{creation, established, used, lost, example, plainAfter, wokenAfter, ExtraWakingsExample, late, unheld, disordered, ConditionsNeeded}
-use Rattle.parts.specs.Check.{timeHolds, stateHolds, inRange, intervalHolds, bothAtMost, eventHolds, slotHolds, slotsHold, queueHolds, eventsHold, handshakeHolds, packetTimersHold, dataTimersHold, fieldsHold, timersHold}
+use Rattle.sessions.specs.Check.{slotHolds, slotsHold}
+use Rattle.parts.specs.Check.{timeHolds, stateHolds, inRange, intervalHolds, bothAtMost, eventHolds, queueHolds, eventsHold, handshakeHolds, packetTimersHold, dataTimersHold, fieldsHold, timersHold}
 use Rattle.parts.specs.Event.{caseEvent}
-use Rattle.parts.specs.Handshake.{caseState, caseCompleted, newHandshake, awaits, isInProgress, inFlightInitiation, setExpired, isExpired, cookieExpiration, appendMac1AndMac2, initiateHandshake, expects, receiveHandshakeResponse}
+use Rattle.parts.specs.Handshake.{caseState, caseCompleted, newHandshake, awaits, isInProgress, inFlightInitiation, setExpired, isExpired, cookieExpiration, appendMac1AndMac2, initiateHandshake, expects, receiveHandshakeResponse, expireCookie}
 use Rattle.parts.specs.RingBuffer.{placeOf, emptyPlaces, newRing, ringIsEmpty, storeAt, pushBack, popFront, eventsFrom, queued}
 use Rattle.parts.specs.Timers.{caseInterval, newTimers, rejectAfterTimeOf, rekeyAttemptDeadline, rekeyAfterTimeWithoutResponse, keepaliveAfterTimeWithoutSend, nextPersistentKeepalive, clearTimers, tickLastHandshakeCompleted, tickLastHandshakeStarted, tickLastPacketReceived, tickLastPacketSent, getOr, tickLastDataPacketSent, tickPersistentKeepalive, rekeyTimeoutOf, scheduleHandshake, cancelScheduledHandshake, consumePassiveKeepalive, tickCompleted, tickInitiation}
 use Rattle.parts.specs.declared.event.Event.the-variants.{Empty, SendKeepalive, ConnectionExpired}
-use Rattle.sessions.specs.Index.{wrappingIncrement}
-use Rattle.sessions.specs.Session.{caseTime, caseRole, caseReserved, dueBy, least, earlier, newSession, emptySession, rekeyAfterTimeOnSend, rejectAfterTimeOnReceive, expiresAt, expiredAt, shouldUseAt, rekeyAfterMessagesReached, sendingCounterExhausted, preparePacketData, reserveCounters}
+use Rattle.session.specs.Index.{wrappingIncrement}
+use Rattle.session.specs.Session.{caseTime, caseRole, caseReserved, dueBy, least, earlier, newSession, emptySession, rekeyAfterTimeOnSend, rejectAfterTimeOnReceive, expiresAt, expiredAt, shouldUseAt, rekeyAfterMessagesReached, sendingCounterExhausted, preparePacketData, reserveCounters}
 use Rattle.sessions.specs.Sessions.{caseFound, caseSelected, emptySlots, newSessions, inSlotOf, get, put, currentOf, inCurrentSlot, indexAfter, nextIndex, inserting, insert, usable, sendingSession, isIndex, select, setCurrent, clear, emptied, expiredSlot, discard, expireSlot, expireFirst, expire, noneFilled, slotExpiry, firstExpiry}
-use Rattle.sessions.specs.Store.{putSlot, zeros}
-use Rattle.sessions.specs.declared.session.Time.the-variants.{At}
-use Rattle.sessions.specs.declared.session.Time.{Time}
+use Rattle.session.specs.Store.{putSlot, zeros}
+use Rattle.session.specs.declared.session.Time.the-variants.{At}
+use Rattle.session.specs.declared.session.Time.{Time}
 use Rattle.tunnel.specs.Arguments.{intervalOf, openingOutcome, lacking, badOutcome, badJitter, creationNumber}
 use Rattle.tunnel.specs.Check.{undamaged}
 use Rattle.tunnel.specs.Tunnel.{made, gate, timelessGate, refused, settled, timed, timeless, kept, timedTurn, callNew, callStart, callSend, callResponse, callTimeout, callEvent, callDeadline}
-use Rattle.waking.specs.Waking.{clearAll, expireControl, scheduling, queueKeepalive, persistentKeepalive, keepalives, rekeyDue, wakeIdle, wakeInProgress, expireCookie, wakeLater, wakeRest, isLost, isReplaced, wakeCurrent, wakeSessions, sendScheduled, wake, handleTimeout}
+use Rattle.waking.specs.Waking.{clearAll, expireControl, scheduling, queueKeepalive, keepaliveDue, passiveTimers, keepaliveTimers, sendKeepalive, keepalives, rekeyDue, wakeIdle, wakeInProgress, wakeLater, wakeRest, isLost, isReplaced, wakeCurrent, wakeSessions, sendScheduled, wake, handleTimeout}
 
 -- what the two tunnels, with a keepalive of so many seconds, answer to a call after some steps
 abbrev plainAnswer : ℕ → List Step → Call → Answer
@@ -87,7 +88,7 @@ record Computed : Type 0 where
   disorderedWoken : wokenAnswer 0 disorderedFirst (start 5000000000) ≡ No 13
 
 computed : Computed
-unfolding choose wrappingIncrement caseTime caseRole caseReserved dueBy least earlier newSession emptySession rekeyAfterTimeOnSend rejectAfterTimeOnReceive expiresAt expiredAt shouldUseAt rekeyAfterMessagesReached sendingCounterExhausted preparePacketData reserveCounters caseFound caseSelected emptySlots newSessions inSlotOf get put currentOf inCurrentSlot indexAfter nextIndex inserting insert usable sendingSession isIndex select setCurrent clear emptied expiredSlot discard expireSlot expireFirst expire noneFilled slotExpiry firstExpiry putSlot zeros numberOf intervalOf openingOutcome lacking badOutcome badJitter creationNumber timeHolds stateHolds inRange intervalHolds bothAtMost eventHolds slotHolds slotsHold queueHolds eventsHold handshakeHolds packetTimersHold dataTimersHold fieldsHold timersHold storedHolds controlHolds undamaged newControl refuse done expiredControl queueing pollEvent scheduledHandshake earliestExpiry cookieDeadline rejectDeadline attemptDeadline handshakeRekeyTimeout rekeyOnSend rekeyAfterMessages rekeyOnReceive responseDeadline passiveDeadline persistentDeadline currentPersistentDeadline commonDeadline rekeyDeadline keepaliveDeadline unscheduledDeadline nextDeadline notBefore pollTimeout caseEvent caseState caseCompleted newHandshake awaits isInProgress inFlightInitiation setExpired isExpired cookieExpiration appendMac1AndMac2 initiateHandshake expects receiveHandshakeResponse confirming establish complete handleHandshakeResponse initiating initiate restartHandshake startHandshake placeOf emptyPlaces newRing ringIsEmpty storeAt pushBack popFront eventsFrom queued caseInterval newTimers rejectAfterTimeOf rekeyAttemptDeadline rekeyAfterTimeWithoutResponse keepaliveAfterTimeWithoutSend nextPersistentKeepalive clearTimers tickLastHandshakeCompleted tickLastHandshakeStarted tickLastPacketReceived tickLastPacketSent getOr tickLastDataPacketSent tickPersistentKeepalive rekeyTimeoutOf scheduleHandshake cancelScheduledHandshake consumePassiveKeepalive tickCompleted tickInitiation caseDatagram beginEncapsulate finishEncapsulate grant encryptKeepalive confirmFirstSession made gate timelessGate refused settled timed timeless kept timedTurn callNew callStart callSend callResponse callTimeout callEvent callDeadline clearAll expireControl scheduling queueKeepalive persistentKeepalive keepalives rekeyDue wakeIdle wakeInProgress expireCookie wakeLater wakeRest isLost isReplaced wakeCurrent wakeSessions sendScheduled wake handleTimeout transport.send step after plainCalls wokenCalls took ran timeOf established used lost example late unheld disordered isEleven isAbove testExpired testEarly testHeld noneEarlier testOrder
+unfolding choose wrappingIncrement caseTime caseRole caseReserved dueBy least earlier newSession emptySession rekeyAfterTimeOnSend rejectAfterTimeOnReceive expiresAt expiredAt shouldUseAt rekeyAfterMessagesReached sendingCounterExhausted preparePacketData reserveCounters caseFound caseSelected emptySlots newSessions inSlotOf get put currentOf inCurrentSlot indexAfter nextIndex inserting insert usable sendingSession isIndex select setCurrent clear emptied expiredSlot discard expireSlot expireFirst expire noneFilled slotExpiry firstExpiry putSlot zeros numberOf intervalOf openingOutcome lacking badOutcome badJitter creationNumber timeHolds stateHolds inRange intervalHolds bothAtMost eventHolds slotHolds slotsHold queueHolds eventsHold handshakeHolds packetTimersHold dataTimersHold fieldsHold timersHold storedHolds controlHolds undamaged newControl refuse done expiredControl queueing pollEvent scheduledHandshake earliestExpiry cookieDeadline rejectDeadline attemptDeadline handshakeRekeyTimeout foundOnSend foundAfterMessages foundOnReceive responseDeadline passiveDeadline persistentDeadline currentPersistentDeadline commonDeadline rekeyDeadline keepaliveDeadline unscheduledDeadline nextDeadline notBefore pollTimeout caseEvent caseState caseCompleted newHandshake awaits isInProgress inFlightInitiation setExpired isExpired cookieExpiration appendMac1AndMac2 initiateHandshake expects receiveHandshakeResponse confirming establish complete handleHandshakeResponse initiating initiate restartHandshake startHandshake placeOf emptyPlaces newRing ringIsEmpty storeAt pushBack popFront eventsFrom queued caseInterval newTimers rejectAfterTimeOf rekeyAttemptDeadline rekeyAfterTimeWithoutResponse keepaliveAfterTimeWithoutSend nextPersistentKeepalive clearTimers tickLastHandshakeCompleted tickLastHandshakeStarted tickLastPacketReceived tickLastPacketSent getOr tickLastDataPacketSent tickPersistentKeepalive rekeyTimeoutOf scheduleHandshake cancelScheduledHandshake consumePassiveKeepalive tickCompleted tickInitiation caseDatagram beginEncapsulate finishEncapsulate grant encryptKeepalive confirmFirstSession made gate timelessGate refused settled timed timeless kept timedTurn callNew callStart callSend callResponse callTimeout callEvent callDeadline clearAll expireControl scheduling queueKeepalive keepaliveDue passiveTimers keepaliveTimers sendKeepalive keepalives rekeyDue wakeIdle wakeInProgress expireCookie wakeLater wakeRest isLost isReplaced wakeCurrent wakeSessions sendScheduled wake handleTimeout transport.send step after plainCalls wokenCalls took ran timeOf established used lost example late unheld disordered isEleven isAbove testExpired testEarly testHeld noneEarlier testOrder
 computed =
     record {
       good = refl;

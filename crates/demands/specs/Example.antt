@@ -10,7 +10,7 @@ use Rattle.demands.specs.Made.{made, insertions}
 use Rattle.demands.specs.Receiving.{historyOf, Batch, receiving, Live}
 use Rattle.demands.specs.Sending.{wokenGrants, granting, grants, countersOf}
 use Rattle.parts.specs.declared.event.Event.the-variants.{SendKeepalive}
-use Rattle.sessions.specs.Store.{zeros}
+use Rattle.session.specs.Store.{zeros}
 
 -- index 256, no persistent keepalive, time 0
 unfoldable pub creation : Creation

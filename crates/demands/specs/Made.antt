@@ -5,7 +5,7 @@ use Rattle.control.specs.declared.answer.Answer.the-variants.{No, Done, NoAnswe
 use Rattle.control.specs.declared.answer.Answer.{Answer}
 use Rattle.demands.specs.Calls.Call.{start, restart, send, receive, look, initiation, response, cookie, timeout, event, deadline, missing}
 use Rattle.demands.specs.Calls.{Call, World, Reply, step}
-use Rattle.sessions.specs.declared.range.Range.{Range}
+use Rattle.session.specs.declared.range.Range.{Range}
 
 -- a call that was made: the tunnel and the store just before it, the call, and what it handed back
 pub record Made : Type 0 where

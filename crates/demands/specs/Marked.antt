@@ -10,11 +10,11 @@ use Rattle.control.specs.declared.answer.Answer.{Answer}
 use Rattle.parts.specs.RingBuffer.{newRing, pushBack, popFront}
 use Rattle.parts.specs.declared.event.Event.the-variants.{SendHandshakeInitiation}
 use Rattle.parts.specs.declared.ring_buffer.RingBuffer.{RingBuffer}
-use Rattle.sessions.specs.Session.{caseReserved, newSession, withCounter, reserveCounters}
+use Rattle.session.specs.Session.{caseReserved, newSession, withCounter, reserveCounters}
 use Rattle.sessions.specs.Sessions.{caseFound, newSessions, nextIndex, inserting, select, sendingSession}
-use Rattle.sessions.specs.Store.{zeros}
-use Rattle.sessions.specs.declared.session.Role.the-variants.{Initiator, Responder}
-use Rattle.sessions.specs.declared.session.Role.{Role}
+use Rattle.session.specs.Store.{zeros}
+use Rattle.session.specs.declared.session.Role.the-variants.{Initiator, Responder}
+use Rattle.session.specs.declared.session.Role.{Role}
 use Rattle.tunnel.specs.Tunnel.{callNew, callTimeout, callEvent, callDeadline}
 use Rattle.tunnel.specs.declared.tunnel.Tunnel.{Tunnel}
 use Rattle.window.specs.History.{Window, verdict, given}

@@ -9,7 +9,7 @@ use Rattle.demands.specs.Calls.{Call, step, after, Creation, created, Go
 use Rattle.demands.specs.Made.{made, insertions}
 use Rattle.demands.specs.Receiving.{historyOf}
 use Rattle.sessions.specs.Sessions.{slotAt}
-use Rattle.sessions.specs.declared.session.Session.{Session}
+use Rattle.session.specs.declared.session.Session.{Session}
 use Rattle.window.specs.History.{amongLast}
 
 -- the record of a slot after a list of calls

@@ -17,8 +17,8 @@ use Rattle.parts.specs.declared.event.Event.the-variants.{Empty, SendKeepalive}
 use Rattle.parts.specs.declared.event.Event.{Event}
 use Rattle.parts.specs.declared.ring_buffer.RingBuffer.{RingBuffer}
 use Rattle.sessions.specs.Sessions.{caseFound, currentOf}
-use Rattle.sessions.specs.declared.range.Range.{Range}
-use Rattle.sessions.specs.declared.session.Session.{Session}
+use Rattle.session.specs.declared.range.Range.{Range}
+use Rattle.session.specs.declared.session.Session.{Session}
 use Rattle.sessions.specs.declared.sessions.Found.the-variants.{Got}
 use Rattle.sessions.specs.declared.sessions.Found.{Found}
 use Rattle.window.specs.Window.{limit}

@@ -17,12 +17,12 @@ use Rattle.control.specs.declared.control.Control.{Control}
 use Rattle.control.specs.declared.control.Out.{Out}
 use Rattle.demands.specs.Calls.Call.{start, restart, send, receive, look, initiation, response, cookie, timeout, event, deadline, missing}
 use Rattle.demands.specs.Calls.{Call, World, Reply, step, after, Creation, created, Good}
-use Rattle.sessions.specs.Session.{timeLimit}
+use Rattle.session.specs.Session.{timeLimit}
 use Rattle.sessions.specs.Sessions.{currentOf}
-use Rattle.sessions.specs.Store.{zeros}
-use Rattle.sessions.specs.declared.session.Session.{Session}
-use Rattle.sessions.specs.declared.session.Time.the-variants.{Never, At}
-use Rattle.sessions.specs.declared.session.Time.{Time}
+use Rattle.session.specs.Store.{zeros}
+use Rattle.session.specs.declared.session.Session.{Session}
+use Rattle.session.specs.declared.session.Time.the-variants.{Never, At}
+use Rattle.session.specs.declared.session.Time.{Time}
 use Rattle.sessions.specs.declared.sessions.Found.the-variants.{Got}
 use Rattle.tunnel.specs.Arguments.{intervalOf, openingOutcome, initiationOutcome, lacking, badOutcome, badJitter, badBatch}
 

@@ -16,7 +16,7 @@ use Rattle.parts.specs.declared.handshake.HandshakeState.{HandshakeState
 use Rattle.parts.specs.declared.handshake.HandshakeState.the-variants.{None, InitSent, Expired}
 use Rattle.parts.specs.declared.timers.Interval.{Interval}
 use Rattle.parts.specs.declared.timers.Interval.the-variants.{Off, Every}
-use Rattle.sessions.specs.declared.session.Session.{Session}
+use Rattle.session.specs.declared.session.Session.{Session}
 
 module _ {A : Type 0} where
   pub is-off : (d : Interval) (v x : A) (f : ℕ → A) → d ≡ Off → v ≡ x → v ≡ caseInterval d x f

@@ -1,53 +1,14 @@
--- The loops of number 14 over the slots and over the queued events: where each begins, a turn, and where it ends.
+-- The loop of number 14 over the queued events: where it begins, a turn, and where it ends.
 -- Assumes nothing.
 use mathlib.Core.Path.{_≡_, refl, sym, _∙_}
 use mathlib.Core.Bool.{Bool, true, false}
-use Prim.Native.Nat.{ℕ, zero, suc, _+_, _-_, _≤_, _<_}
-use native.Mathlib.Nat.{add-zero, add-suc}
-use native.Mathlib.Numerals.{add-one}
+use Prim.Native.Nat.{ℕ, suc, _+_, _-_, _≤_, _<_}
+use native.Mathlib.Nat.{add-zero}
 use native.Mathlib.Omega.{arith}
 use Rattle.base.specs.Choice.{choose}
-use Rattle.parts.specs.Check.{slotHolds, slotsHold, eventHolds, queueHolds}
+use Rattle.parts.specs.Check.{eventHolds, queueHolds}
 use Rattle.parts.specs.RingBuffer.{placeOf, eventAt, RingWithin, eventsFrom, queued}
 use Rattle.parts.specs.declared.ring_buffer.RingBuffer.{RingBuffer}
-use Rattle.sessions.specs.Sessions.{slotAt}
-use Rattle.sessions.specs.declared.sessions.Sessions.{Sessions}
-
--- the first slots hold
-pub record SlotsYet (s : Sessions) (greatest slot : ℕ) : Type 0 where
-  pub within : slot ≤ 8
-  pub hold : slotsHold s slot greatest ≡ true
-
-module _ (s : Sessions) (greatest : ℕ) where
-  -- a slot that does not hold is not made good by later ones
-  slots-fail : (slot more : ℕ) → slotsHold s slot greatest ≡ false → slotsHold s (slot + more) greatest ≡ false
-  unfolding slotsHold choose
-  slots-fail slot zero p = rw add-zero p
-  slots-fail slot (suc more) p = rw (add-suc, slots-fail slot more p)
-
-  pub slots-begin : SlotsYet s greatest 0
-  unfolding slotsHold
-  slots-begin = record { within = omega arith; hold = refl }
-
-  module _ (slot : ℕ) (y : SlotsYet s greatest slot) where
-    pub slots-end : 8 ≤ slot → true ≡ slotsHold s 8 greatest
-    slots-end h =
-        let e : slot ≡ 8 = omega (arith, y .within) in
-        sym (rw e at (y .hold))
-
-    module _ (f : Bool) (h : slot < 8) (is : f ≡ slotHolds (slotAt s slot) slot greatest) where
-      pub slots-more : f ≡ true → SlotsYet s greatest (slot + 1)
-      unfolding slotsHold choose
-      slots-more t = record { within = omega arith; hold = rw (add-one, y .hold, ← is) t }
-
-      slot-fails : f ≡ false → slotsHold s (suc slot) greatest ≡ false
-      unfolding slotsHold choose
-      slot-fails t = rw (y .hold, ← is) t
-
-      pub slot-bad : f ≡ false → false ≡ slotsHold s 8 greatest
-      slot-bad t =
-          let e : suc slot + (7 - slot) ≡ 8 = omega arith in
-          sym (rw e at (slots-fail (suc slot) (7 - slot) (slot-fails t)))
 
 -- a ring without an event holds
 pub queue-empty : (r : RingBuffer) (greatest : ℕ) → r .len ≡ 0 → true ≡ queueHolds (queued r) greatest

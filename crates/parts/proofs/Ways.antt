@@ -6,7 +6,7 @@ use Prim.Native.Nat.{ℕ, _+_, _-_, _*_, _≤_, _<_}
 use native.Mathlib.Omega.{arith}
 use borrow.Author.Tests.{eq-eqb, ne-eqb}
 use Rattle.base.specs.Choice.{choose}
-use Rattle.parts.specs.Handshake.{cookieExpiration, clearCookie, expireCookieOf}
+use Rattle.parts.specs.Handshake.{cookieExpiration, clearCookie, expireCookie}
 use Rattle.parts.specs.RingBuffer.{ringOf, placeOf, eventAt, storeAt, pushBack, popFront}
 use Rattle.parts.specs.Timers.{TimeWithin, IntervalWithin, withWaiting, withDataSent, getOr, tickLastHandshakeCompleted, tickLastHandshakeStarted, tickLastPacketReceived, tickLastPacketSent, tickLastDataPacketReceived, tickLastDataPacketSent, tickAccepted, tickResponse, tickCompleted, tickInitiation, cancelScheduledHandshake}
 use Rattle.parts.specs.declared.event.Event.{Event}
@@ -16,9 +16,9 @@ use Rattle.parts.specs.declared.ring_buffer.RingBuffer.{RingBuffer}
 use Rattle.parts.specs.declared.timers.Interval.{Interval}
 use Rattle.parts.specs.declared.timers.Interval.the-variants.{Every}
 use Rattle.parts.specs.declared.timers.Timers.{Timers}
-use Rattle.sessions.specs.Session.{timeLimit, dueBy}
-use Rattle.sessions.specs.declared.session.Time.{Time}
-use Rattle.sessions.specs.declared.session.Time.the-variants.{At}
+use Rattle.session.specs.Session.{timeLimit, dueBy}
+use Rattle.session.specs.declared.session.Time.{Time}
+use Rattle.session.specs.declared.session.Time.the-variants.{At}
 use mir.Syntax.{w64}
 use mir.Val.{Fits}
 
@@ -76,12 +76,12 @@ module _ (t : Timers) (now : ℕ) where
 
 -- the cookie that is due, and one that is not
 module _ (h : Handshake) (now : ℕ) (flag : Bool) (at : Time) (a : at ≡ cookieExpiration h) (f : flag ≡ dueBy at now) where
-  pub cookie-due : (out : Handshake) → flag ≡ true → out ≡ clearCookie h → out ≡ expireCookieOf h now
-  unfolding expireCookieOf choose
+  pub cookie-due : (out : Handshake) → flag ≡ true → out ≡ clearCookie h → out ≡ expireCookie h now
+  unfolding expireCookie choose
   cookie-due out y e = rw (← a, ← f, y) e
 
-  pub cookie-kept : flag ≡ false → h ≡ expireCookieOf h now
-  unfolding expireCookieOf choose
+  pub cookie-kept : flag ≡ false → h ≡ expireCookie h now
+  unfolding expireCookie choose
   cookie-kept n = rw (← a, ← f, n)
 
 -- a place of the ring

@@ -1,9 +1,9 @@
--- Number 14: whether each part of a stored state is one that it lets through. Empty slots and unused places of the ring are not looked at.
+-- Number 14: whether it lets the timers, the handshake and the events of a stored state through. Unused places of the ring are not looked at.
 use mathlib.Core.Bool.{Bool, true, false}
 use mathlib.Core.List.{List, [], _∷_}
-use Prim.Native.Nat.{ℕ, zero, suc, _+_}
+use Prim.Native.Nat.{ℕ, _+_}
 use lib.Dec.{leb, eqb}
-use Rattle.base.specs.Choice.{choose}
+use Rattle.base.specs.Choice.{choose, _and_}
 use Rattle.parts.specs.Event.{caseEvent}
 use Rattle.parts.specs.Handshake.{caseState}
 use Rattle.parts.specs.RingBuffer.{queued}
@@ -14,21 +14,8 @@ use Rattle.parts.specs.declared.handshake.HandshakeState.{HandshakeState
 use Rattle.parts.specs.declared.ring_buffer.RingBuffer.{RingBuffer}
 use Rattle.parts.specs.declared.timers.Interval.{Interval}
 use Rattle.parts.specs.declared.timers.Timers.{Timers}
-use Rattle.sessions.specs.Index.{slotIn}
-use Rattle.sessions.specs.Session.{caseTime}
-use Rattle.sessions.specs.Sessions.{slotAt}
-use Rattle.sessions.specs.declared.session.Session.{Session}
-use Rattle.sessions.specs.declared.session.Time.{Time}
-use Rattle.sessions.specs.declared.sessions.Sessions.{Sessions}
-
--- LIMIT
-abbrev pub limit : ℕ
-limit = 18446744073709543423
-
-infixr 30 _and_
--- both hold
-abbrev pub _and_ : Bool → Bool → Bool
-a and b = choose a b false
+use Rattle.session.specs.Session.{caseTime}
+use Rattle.session.specs.declared.session.Time.{Time}
 
 -- a time, if present, is at most this
 unfoldable pub timeHolds : Time → ℕ → Bool
@@ -54,23 +41,6 @@ bothAtMost a b most = leb a most and leb b most
 unfoldable pub eventHolds : Event → ℕ → Bool
 eventHolds event greatest =
     caseEvent event true (λ local. true) (λ peer counter. true) (λ started confirmed. bothAtMost started confirmed greatest) true
-
--- a filled slot's time is at most the greatest time, its send counter and its window's next at most LIMIT, its index of this slot
-unfoldable pub slotHolds : Session → (slot greatest : ℕ) → Bool
-slotHolds s slot greatest =
-    choose (s .filled)
-    (leb (s .«established_at») greatest and leb (s .«sending_key_counter») limit and leb (s .next) limit
-    and eqb (slotIn (s .«receiving_index»)) slot)
-    true
-
--- so many slots hold
-unfoldable pub slotsHold : Sessions → (count greatest : ℕ) → Bool
-slotsHold s zero greatest = true
-slotsHold s (suc count) greatest = slotsHold s count greatest and slotHolds (slotAt s count) count greatest
-
--- every slot holds
-abbrev pub sessionsHold : Sessions → ℕ → Bool
-sessionsHold s greatest = slotsHold s 8 greatest
 
 -- every event of a list holds
 unfoldable pub queueHolds : List Event → ℕ → Bool

@@ -13,11 +13,11 @@ use Rattle.parts.specs.declared.handshake.Cookies.{Cookies}
 use Rattle.parts.specs.declared.handshake.Handshake.{Handshake}
 use Rattle.parts.specs.declared.handshake.HandshakeState.{HandshakeState}
 use Rattle.parts.specs.declared.handshake.HandshakeState.the-variants.{None, InitSent, Expired}
-use Rattle.sessions.specs.Session.{caseTime, dueBy, newSession}
-use Rattle.sessions.specs.declared.session.Role.the-variants.{Initiator, Responder}
-use Rattle.sessions.specs.declared.session.Session.{Session}
-use Rattle.sessions.specs.declared.session.Time.{Time}
-use Rattle.sessions.specs.declared.session.Time.the-variants.{Never, At}
+use Rattle.session.specs.Session.{caseTime, dueBy, newSession}
+use Rattle.session.specs.declared.session.Role.the-variants.{Initiator, Responder}
+use Rattle.session.specs.declared.session.Session.{Session}
+use Rattle.session.specs.declared.session.Time.{Time}
+use Rattle.session.specs.declared.session.Time.the-variants.{Never, At}
 
 module _ {A : Type 0} where
   -- one value for no handshake, one for each initiation sent, one for the expired state
@@ -91,8 +91,8 @@ unfoldable pub clearCookie : Handshake → Handshake
 clearCookie h = withCookies h (tracking (h .cookies .«last_mac1») (h .cookies .index) Never)
 
 -- the stored cookie dropped if it has expired
-unfoldable pub expireCookieOf : Handshake → ℕ → Handshake
-expireCookieOf h now = choose (dueBy (cookieExpiration h) now) (clearCookie h) h
+unfoldable pub expireCookie : Handshake → ℕ → Handshake
+expireCookie h now = choose (dueBy (cookieExpiration h) now) (clearCookie h) h
 
 -- a message with this local index was sent, whose cookie reply is then awaited
 unfoldable pub appendMac1AndMac2 : Handshake → ℕ → Handshake

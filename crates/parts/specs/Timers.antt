@@ -6,9 +6,9 @@ use Rattle.base.specs.Choice.{choose}
 use Rattle.parts.specs.declared.timers.Interval.{Interval}
 use Rattle.parts.specs.declared.timers.Interval.the-variants.{Off, Every}
 use Rattle.parts.specs.declared.timers.Timers.{Timers}
-use Rattle.sessions.specs.Session.{rejectAfterTime, keepaliveTimeout, rekeyTimeout, caseTime}
-use Rattle.sessions.specs.declared.session.Time.{Time}
-use Rattle.sessions.specs.declared.session.Time.the-variants.{Never, At}
+use Rattle.session.specs.Session.{rejectAfterTime, keepaliveTimeout, rekeyTimeout, caseTime}
+use Rattle.session.specs.declared.session.Time.{Time}
+use Rattle.session.specs.declared.session.Time.the-variants.{Never, At}
 
 -- 90 s
 abbrev pub rekeyAttemptTime : ℕ

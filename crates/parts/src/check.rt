@@ -1,5 +1,5 @@
-// Number 14: whether each part of a state is one that the calls leave behind, as far as it is looked at. Empty slots and unused places
-// of the ring are not.
+// Number 14: whether the timers, the handshake and the events are such as the calls leave behind, as far as they are looked at. Unused
+// places of the ring are not.
 use crate::event::Event;
 use crate::handshake::Handshake;
 use crate::handshake::HandshakeState;
@@ -8,15 +8,12 @@ use crate::ring_buffer::place_of;
 use crate::timers::Interval;
 use crate::timers::MAX_JITTER;
 use crate::timers::Timers;
-use sessions::session::REJECT_AFTER_MESSAGES;
-use sessions::session::Session;
-use sessions::session::Time;
-use sessions::sessions::Sessions;
+use session::session::Time;
 ghost use mathlib.Core.Path.{_≡_};
 ghost use Prim.Native.Nat.{_≤_};
-ghost use Rattle.sessions.specs.Session.{timeLimit};
+ghost use Rattle.session.specs.Session.{timeLimit};
 ghost use Rattle.parts.specs.RingBuffer.{RingWithin, queued};
-ghost use Rattle.parts.specs.Check.{timeHolds, stateHolds, inRange, intervalHolds, bothAtMost, eventHolds, slotHolds, sessionsHold, queueHolds, eventsHold, handshakeHolds, packetTimersHold, dataTimersHold, fieldsHold, timersHold};
+ghost use Rattle.parts.specs.Check.{timeHolds, stateHolds, inRange, intervalHolds, bothAtMost, eventHolds, queueHolds, eventsHold, handshakeHolds, packetTimersHold, dataTimersHold, fieldsHold, timersHold};
 
 // A present time is at most this.
 pub fn time_holds(time: Time, most: u64) -> bool
@@ -85,41 +82,6 @@ fn both_at_most(a: u64, b: u64, most: u64) -> bool
         return false;
     }
     b <= most
-}
-
-// A filled slot's time, counters and index.
-fn slot_holds(session: Session, slot: usize, greatest: u64) -> bool
-    ensures { λ r. ⌜ r ≡ slotHolds session slot greatest ⌝ }
-{
-    if session.filled {
-        if session.established_at > greatest {
-            return false;
-        }
-        if session.sending_key_counter > REJECT_AFTER_MESSAGES {
-            return false;
-        }
-        if session.next > REJECT_AFTER_MESSAGES {
-            return false;
-        }
-        return (session.receiving_index % 8) as usize == slot;
-    }
-    true
-}
-
-// Every slot.
-pub fn sessions_hold(sessions: Sessions, greatest: u64) -> bool
-    ensures { λ r. ⌜ r ≡ sessionsHold sessions greatest ⌝ }
-{
-    let mut slot = 0;
-    while slot < 8 {
-        let session = sessions.slots[slot];
-        if slot_holds(session, slot, greatest) {
-            slot = slot + 1;
-        } else {
-            return false;
-        }
-    }
-    true
 }
 
 // Every queued event of a ring whose head and length are in range.

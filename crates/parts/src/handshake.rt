@@ -1,12 +1,12 @@
 // Handshake state and cookie tracking, without key material.
 use crate::timers::COOKIE_EXPIRATION_TIME;
-use sessions::session::Role;
-use sessions::session::Session;
-use sessions::session::Time;
-use sessions::session::due_by;
+use session::session::Role;
+use session::session::Session;
+use session::session::Time;
+use session::session::due_by;
 ghost use mathlib.Core.Path.{_≡_};
-ghost use Rattle.sessions.specs.Session.{timeLimit};
-ghost use Rattle.parts.specs.Handshake.{HandshakeWithin, awaits, newHandshake, isInProgress, inFlightInitiation, setExpired, isExpired, cookieExpiration, clearCookie, expireCookieOf, initiateHandshake, receiveHandshakeInitialization, expects, receiveHandshakeResponse, receiveCookieReply, appendMac1AndMac2};
+ghost use Rattle.session.specs.Session.{timeLimit};
+ghost use Rattle.parts.specs.Handshake.{HandshakeWithin, awaits, newHandshake, isInProgress, inFlightInitiation, setExpired, isExpired, cookieExpiration, clearCookie, expireCookie, initiateHandshake, receiveHandshakeInitialization, expects, receiveHandshakeResponse, receiveCookieReply, appendMac1AndMac2};
 
 pub enum HandshakeState {
     None,
@@ -159,7 +159,7 @@ impl Handshake {
     // Drops the stored cookie if it has expired.
     pub fn expire_cookie(self, now: u64) -> Handshake
         requires { ⌜ HandshakeWithin self timeLimit ⌝ }
-        ensures { λ r. ⌜ r ≡ expireCookieOf self now ⌝ }
+        ensures { λ r. ⌜ r ≡ expireCookie self now ⌝ }
     {
         if due_by(self.cookie_expiration(), now) {
             return self.clear_cookie();

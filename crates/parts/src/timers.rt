@@ -1,10 +1,10 @@
 // The timers of the WireGuard protocol. `TimeLastUpdate` stands in the tunnel, beside its control.
-use sessions::session::KEEPALIVE_TIMEOUT;
-use sessions::session::REJECT_AFTER_TIME;
-use sessions::session::REKEY_TIMEOUT;
-use sessions::session::Time;
+use session::session::KEEPALIVE_TIMEOUT;
+use session::session::REJECT_AFTER_TIME;
+use session::session::REKEY_TIMEOUT;
+use session::session::Time;
 ghost use mathlib.Core.Path.{_≡_};
-ghost use Rattle.sessions.specs.Session.{timeLimit};
+ghost use Rattle.session.specs.Session.{timeLimit};
 ghost use Rattle.parts.specs.Timers.{TimeWithin, TimersWithin, getOr, rekeyTimeoutOf, newTimers, rejectAfterTimeOf, rekeyAttemptDeadline, rekeyAfterTimeWithoutResponse, keepaliveAfterTimeWithoutSend, nextPersistentKeepalive, clearTimers, tickLastHandshakeCompleted, tickLastHandshakeStarted, tickLastPacketReceived, tickLastPacketSent, tickLastDataPacketReceived, tickLastDataPacketSent, tickPersistentKeepalive, tickAccepted, tickResponse, tickCompleted, tickInitiation, scheduleHandshake, cancelScheduledHandshake, consumePassiveKeepalive};
 
 pub const REKEY_ATTEMPT_TIME: u64 = 90_000_000_000;

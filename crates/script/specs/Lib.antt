@@ -1,3 +1,1 @@
-pub mod Number
-pub mod Place
-pub mod Text
+pub mod Places

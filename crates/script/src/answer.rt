@@ -1,13 +1,13 @@
 // Answers in text.
 use crate::line::Line;
-use crate::text::put;
-use crate::text::put_number;
-use crate::text::put_text;
 use control::answer::Answer;
 use parts::event::Event;
-use sessions::range::Range;
-use sessions::range::Split;
-use sessions::session::Time;
+use session::range::Range;
+use session::range::Split;
+use session::session::Time;
+use text::text::put;
+use text::text::put_number;
+use text::text::put_text;
 
 // Puts the numbers of a range.
 fn put_range(out: &mut [u8], at: usize, range: Range) -> usize {

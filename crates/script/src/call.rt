@@ -6,7 +6,7 @@ use control::answer::Answer;
 use tunnel::tunnel::Answered;
 use tunnel::tunnel::Tunnel;
 ghost use lib.ListN.{length};
-ghost use Rattle.script.specs.Place.{Places};
+ghost use Rattle.script.specs.Places.{Places};
 
 // Makes a call about a handshake.
 fn call_handshake(tunnel: Tunnel, call: HandshakeCall, store: &mut [u64]) -> Answered {

@@ -1,10 +1,7 @@
-// The lines of the program drive: gathered, read, made into calls, and answered in text. Functions on slices; no input or output.
+// The lines of the program drive: read, made into calls, and answered in text. Functions on slices; no input or output.
 pub mod answer;
 pub mod call;
-pub mod gather;
 pub mod line;
 pub mod messages;
 pub mod name;
 pub mod numbers;
-pub mod text;
-pub mod word;

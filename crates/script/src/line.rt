@@ -8,8 +8,8 @@ use crate::numbers::indices_of;
 use crate::numbers::numbers_of;
 use crate::numbers::read_numbers;
 use crate::numbers::readable;
-use crate::word::skip_spaces;
-use crate::word::word_end;
+use text::word::skip_spaces;
+use text::word::word_end;
 
 // A call about a handshake.
 pub enum HandshakeCall {

@@ -1,11 +1,11 @@
 // The messages of a batch in a line: pairs of a counter and a kind.
-use crate::word::Field;
-use crate::word::read_number;
-use crate::word::skip_spaces;
-use crate::word::word_end;
 use sessions::batch::DATA;
 use sessions::batch::FAILED;
 use sessions::batch::KEEPALIVE;
+use text::word::Field;
+use text::word::read_number;
+use text::word::skip_spaces;
+use text::word::word_end;
 
 // A message of a batch, and the position after it.
 pub enum Message {

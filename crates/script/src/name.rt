@@ -1,5 +1,5 @@
 // The names of the calls.
-use crate::word::same;
+use text::word::same;
 
 pub enum Name {
     Unknown,

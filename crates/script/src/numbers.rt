@@ -1,7 +1,7 @@
 // The numbers that follow a call's name.
 use crate::name::Name;
-use crate::word::Field;
-use crate::word::read_number;
+use text::word::Field;
+use text::word::read_number;
 
 // Up to four numbers, and the position after them. Those that a call does not have are zeros.
 pub struct Numbers {

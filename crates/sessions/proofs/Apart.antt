@@ -1,77 +1,25 @@
--- A slot's words put back are those of that slot and of no other; so a batch, an insertion and an expiry keep the slots that they do not name.
+-- A batch, an insertion and an expiry keep the slots that they do not name.
 -- Assumes nothing.
 use mathlib.Core.Path.{_≡_, refl, ap, sym, _∙_}
 use mathlib.Core.Bool.{Bool, true, false}
-use mathlib.Core.List.{List, _++_, append-assoc}
-use Prim.Native.Nat.{ℕ, zero, suc, _+_, _-_, _*_, _%_, _≤_, _<_}
-use native.Mathlib.Decide.{decLe}
+use mathlib.Core.List.{List}
+use Prim.Native.Nat.{ℕ, zero, suc, _-_, _%_, _≤_, _<_}
 use native.Mathlib.Omega.{arith}
 use lib.Dec.{eqb}
-use lib.ListN.{length, take, drop, getD, set, length-append, length-drop, length-replicate, take-append-drop}
-use lib.Seq.{drop-drop, length-take-le, take-append-le, drop-append-le, drop-append-add, take-at, drop-at, getD-set-other}
+use lib.ListN.{length, getD, set}
+use lib.Seq.{getD-set-other}
 use borrow.Author.Tests.{eqb-true}
 use Rattle.base.specs.Choice.{choose}
-use Rattle.sessions.specs.declared.session.Session.{Session}
+use Rattle.session.specs.declared.session.Session.{Session}
 use Rattle.sessions.specs.declared.sessions.Found.the-variants.{Nothing}
 use Rattle.sessions.specs.declared.sessions.Sessions.{Sessions}
 use Rattle.sessions.specs.declared.sessions.Expired.{Expired}
-use Rattle.sessions.specs.Index.{slotIn}
-use Rattle.sessions.specs.Store.{slotOf, putSlot, zeros}
-use Rattle.sessions.specs.Session.{emptySession, withId}
+use Rattle.session.specs.Index.{slotIn}
+use Rattle.session.specs.Store.{putSlot, zeros}
+use Rattle.session.specs.Session.{emptySession, withId}
 use Rattle.sessions.specs.Sessions.{slotAt, put, emptied, inserting, insert, isIndex, discard, expiredSlot, Expiring, expireSlot, expireFirst, expire}
 use Rattle.sessions.specs.Laws.{Kept}
-
--- so many zero words are so many
-pub length-zeros : (n : ℕ) → length (zeros n) ≡ n
-unfolding zeros
-length-zeros n = length-replicate n 0
-
--- the words of a slot among those of a store, where the slot lies before or after a place
-front : (a r : List ℕ) (n : ℕ) → n + 128 ≤ length a → take 128 (drop n (a ++ r)) ≡ take 128 (drop n a)
-front a r n h = rw (drop-append-le n a r (omega arith)) (take-append-le 128 (drop n a) r (rw length-drop (omega arith)))
-
-back : (a r : List ℕ) (m : ℕ) → drop (length a + m) (a ++ r) ≡ drop m r
-back a r m = drop-append-add a r m
-
-module _ (store words : List ℕ) (k : ℕ) (l : length store ≡ 1024) (low : k < 8) (long : length words ≡ 128) where
-  before : length (take (128 * k) store) ≡ 128 * k
-  before = length-take-le (128 * k) store (omega arith)
-
-  pub length-put : length (putSlot store k words) ≡ 1024
-  unfolding putSlot
-  length-put = simp (length-append, length-drop) (omega (arith, before))
-
-  -- the slot itself
-  pub slot-same : slotOf (putSlot store k words) k ≡ words
-  unfolding slotOf putSlot
-  slot-same = rw (drop-at (take (128 * k) store) (words ++ drop (128 * k + 128) store) (128 * k) before) (take-at words (drop (128 * k + 128) store) 128 long)
-
-  -- a slot before it
-  slot-before : (j : ℕ) → j < k → slotOf (putSlot store k words) j ≡ slotOf store j
-  unfolding slotOf putSlot
-  slot-before j h =
-      front (take (128 * k) store) (words ++ drop (128 * k + 128) store) (128 * j) (omega (arith, before))
-      ∙ sym (front (take (128 * k) store) (drop (128 * k) store) (128 * j) (omega (arith, before)))
-      ∙ ap (λ (x : List ℕ). take 128 (drop (128 * j) x)) (take-append-drop (128 * k) store)
-
-  -- a slot after it
-  slot-after : (j : ℕ) → k < j → slotOf (putSlot store k words) j ≡ slotOf store j
-  unfolding slotOf putSlot
-  slot-after j h =
-      let size : length (take (128 * k) store ++ words) ≡ 128 * k + 128 = rw length-append (omega (arith, before)) in
-      let place : 128 * j ≡ length (take (128 * k) store ++ words) + (128 * j - (128 * k + 128)) = omega (arith, size) in
-      let there : 128 * k + 128 + (128 * j - (128 * k + 128)) ≡ 128 * j = omega arith in
-      ap (take 128)
-      (ap (drop (128 * j)) (sym (append-assoc (take (128 * k) store) words (drop (128 * k + 128) store)))
-      ∙ ap (λ (n : ℕ). drop n ((take (128 * k) store ++ words) ++ drop (128 * k + 128) store)) place
-      ∙ back (take (128 * k) store ++ words) (drop (128 * k + 128) store) (128 * j - (128 * k + 128))
-      ∙ drop-drop (128 * j - (128 * k + 128)) (128 * k + 128) store ∙ ap (λ (n : ℕ). drop n store) there)
-
-  pub slot-other : (j : ℕ) → (j ≡ k → ⊥) → slotOf (putSlot store k words) j ≡ slotOf store j
-  slot-other j d = elim (decLe k j) [
-    | yes h ↦ slot-after j (omega arith)
-    | no h ↦ slot-before j (omega arith)
-  ]
+use Rattle.session.proofs.Words.{length-zeros, length-put, slot-other}
 
 -- a slot that nothing was done to
 pub kept-same : (s : Sessions) (store : List ℕ) (slot : ℕ) → Kept s s store store slot

@@ -9,7 +9,7 @@ use native.Mathlib.Omega.{arith}
 use lib.Dec.{ltb, eqb}
 use lib.ListN.{length, getD, set, take, drop, length-set, drop-of-length-le}
 use lib.Seq.{drop-cons, take-suc-set, take-all, append-snoc}
-use borrow.Author.Tests.{eq-eqb, ne-eqb, lt-ltb, le-ltb, eqb-true}
+use borrow.Author.Tests.{eq-eqb, ne-eqb, eqb-true}
 use borrow.Rule.Slice.PartMut.{putMid}
 use Rattle.base.specs.Choice.{choose}
 use Rattle.window.specs.Window.{willAccept, nextAfter, markDidReceive, Marks}
@@ -17,14 +17,14 @@ use Rattle.window.specs.declared.Marked.{Marked}
 use Rattle.sessions.specs.declared.batch.Progress.{Progress}
 use Rattle.sessions.specs.declared.batch.Finished.{Finished}
 use Rattle.sessions.specs.declared.batch.Received.{Received}
-use Rattle.sessions.specs.declared.session.Session.{Session}
+use Rattle.session.specs.declared.session.Session.{Session}
 use Rattle.sessions.specs.declared.sessions.Found.{Found}
 use Rattle.sessions.specs.declared.sessions.Found.the-variants.{Nothing, Got}
 use Rattle.sessions.specs.declared.sessions.Sessions.{Sessions}
-use Rattle.sessions.specs.Store.{slotOf, putSlot, Leaves}
+use Rattle.session.specs.Store.{slotOf, putSlot, Leaves}
 use Rattle.sessions.specs.Sessions.{caseFound, put}
 use Rattle.sessions.specs.Batch.{known, fits, accepting, finish, finishWords, FinishesAt, Batch, withVerdict, finishAll, Finishes, started, withProgress, receivingSession, refused, Ready, FinishesSlot, answered, commit, receive, Receives}
-use Rattle.sessions.proofs.Words.{part-is, part-put}
+use Rattle.session.proofs.Words.{part-is, part-put}
 
 -- all kinds are known if those looked at are and the others are
 known-moved : (good unknown x : Bool) → choose good (choose unknown false x) false ≡ choose (choose unknown false good) x false

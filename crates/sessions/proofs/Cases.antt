@@ -2,39 +2,16 @@
 -- Assumes nothing.
 use mathlib.Core.Path.{_≡_}
 use Prim.Native.Nat.{ℕ}
-use Rattle.sessions.specs.declared.session.Time.{Time}
-use Rattle.sessions.specs.declared.session.Time.the-variants.{Never, At}
-use Rattle.sessions.specs.declared.session.Role.{Role}
-use Rattle.sessions.specs.declared.session.Role.the-variants.{Initiator, Responder}
-use Rattle.sessions.specs.declared.session.Session.{Session}
+use Rattle.session.specs.declared.session.Session.{Session}
 use Rattle.sessions.specs.declared.sessions.Found.{Found}
 use Rattle.sessions.specs.declared.sessions.Found.the-variants.{Nothing, Got}
 use Rattle.sessions.specs.declared.sessions.Selected.{Selected}
 use Rattle.sessions.specs.declared.sessions.Selected.the-variants.{Unset, Index}
-use Rattle.sessions.specs.declared.session.Reserved.{Reserved}
-use Rattle.sessions.specs.declared.session.Reserved.the-variants.{TooFew, First}
 use Rattle.sessions.specs.declared.sessions.Missing.{Missing}
 use Rattle.sessions.specs.declared.sessions.Missing.the-variants.{Refused, Count}
-use Rattle.sessions.specs.Session.{caseTime, caseRole, caseReserved}
 use Rattle.sessions.specs.Sessions.{caseFound, caseSelected, caseMissing}
 
 module _ {A : Type 0} where
-  pub is-never : (d : Time) (v x : A) (f : ℕ → A) → d ≡ Never → v ≡ x → v ≡ caseTime d x f
-  unfolding caseTime
-  is-never d v x f p q = rw p q
-
-  pub is-at : (d : Time) (time : ℕ) (v x : A) (f : ℕ → A) → d ≡ At time → v ≡ f time → v ≡ caseTime d x f
-  unfolding caseTime
-  is-at d time v x f p q = rw p q
-
-  pub is-initiator : (role : Role) (v x y : A) → role ≡ Initiator → v ≡ x → v ≡ caseRole role x y
-  unfolding caseRole
-  is-initiator role v x y p q = rw p q
-
-  pub is-responder : (role : Role) (v x y : A) → role ≡ Responder → v ≡ y → v ≡ caseRole role x y
-  unfolding caseRole
-  is-responder role v x y p q = rw p q
-
   -- what a lookup answered, where the code has the answer in a local
   pub is-nothing : (got found : Found) (v x : A) (f : Session → A) → got ≡ found → got ≡ Nothing → v ≡ x → v ≡ caseFound found x f
   unfolding caseFound
@@ -52,16 +29,7 @@ module _ {A : Type 0} where
   unfolding caseSelected
   is-index selected index v x f p q = rw p q
 
-  -- what a reservation and a missing report answered
-  pub is-too-few : (got reserved : Reserved) (v x : A) (f : ℕ → Session → A) → got ≡ reserved → got ≡ TooFew → v ≡ x → v ≡ caseReserved reserved x f
-  unfolding caseReserved
-  is-too-few got reserved v x f e p q = rw (← e, p) q
-
-  pub is-first : (got reserved : Reserved) (first : ℕ) (session : Session) (v x : A) (f : ℕ → Session → A) → got ≡ reserved → got ≡ First first session
-      → v ≡ f first session → v ≡ caseReserved reserved x f
-  unfolding caseReserved
-  is-first got reserved first session v x f e p q = rw (← e, p) q
-
+  -- what a missing report answered
   pub is-refused : (got missing : Missing) (number : ℕ) (v : A) (f g : ℕ → A) → got ≡ missing → got ≡ Refused number → v ≡ f number → v ≡ caseMissing missing f g
   unfolding caseMissing
   is-refused got missing number v f g e p q = rw (← e, p) q
@@ -70,4 +38,4 @@ module _ {A : Type 0} where
   unfolding caseMissing
   is-count got missing count v f g e p q = rw (← e, p) q
 
-pub ruleset cases = (is-never, is-at, is-initiator, is-responder, is-nothing, is-got, is-unset, is-index, is-too-few, is-first, is-refused, is-count)
+pub ruleset lookups = (is-nothing, is-got, is-unset, is-index, is-refused, is-count)

@@ -7,10 +7,10 @@ use native.Mathlib.Omega.{arith}
 use lib.Dec.{eqb}
 use borrow.Author.Tests.{eqb-true, eqb-false}
 use Rattle.base.specs.Choice.{choose}
-use Rattle.sessions.specs.declared.session.Session.{Session}
+use Rattle.session.specs.declared.session.Session.{Session}
 use Rattle.sessions.specs.declared.sessions.Found.the-variants.{Got}
 use Rattle.sessions.specs.declared.sessions.Sessions.{Sessions}
-use Rattle.sessions.specs.Index.{slotIn, wrappingIncrement}
+use Rattle.session.specs.Index.{slotIn, wrappingIncrement}
 use Rattle.sessions.specs.Sessions.{caseFound, currentOf, inCurrentSlot, indexAfter, nextIndex}
 use Rattle.sessions.specs.Laws.{NextIndexLaw}
 

@@ -8,9 +8,9 @@ use Rattle.base.specs.Choice.{choose}
 use Rattle.window.specs.Window.{isInvalid}
 use Rattle.window.specs.History.{member, expected, judged}
 use Rattle.sessions.specs.declared.sessions.Found.the-variants.{Got}
-use Rattle.sessions.specs.Index.{slotIn}
-use Rattle.sessions.specs.Store.{putSlot, zeros}
-use Rattle.sessions.specs.Session.{newSession, emptySession, expiredAt}
+use Rattle.session.specs.Index.{slotIn}
+use Rattle.session.specs.Store.{putSlot, zeros}
+use Rattle.session.specs.Session.{newSession, emptySession, expiredAt}
 use Rattle.sessions.specs.Sessions.{caseFound, emptySlots, newSessions, inSlotOf, get, put, inserting, insert}
 use Rattle.sessions.specs.Batch.{known, fits, receivingSession}
 use Rattle.sessions.specs.History.{verdictOn, recorded, verdictsOn, Stands, Live}

@@ -15,15 +15,15 @@ use Rattle.window.specs.History.{member, expected, judged, committing, Represen
 use Rattle.window.proofs.History.{represents-fresh, represents-verdict, judged-zero, judged-only, represents-commit}
 use Rattle.window.proofs.Counted.{represents-ones}
 use Rattle.sessions.specs.declared.batch.Progress.{Progress}
-use Rattle.sessions.specs.declared.session.Session.{Session}
+use Rattle.session.specs.declared.session.Session.{Session}
 use Rattle.sessions.specs.declared.sessions.Sessions.{Sessions}
-use Rattle.sessions.specs.Index.{slotIn}
-use Rattle.sessions.specs.Store.{slotOf, putSlot, zeros, onesOf, missingOf}
-use Rattle.sessions.specs.Session.{emptySession, withId}
+use Rattle.session.specs.Index.{slotIn}
+use Rattle.session.specs.Store.{slotOf, putSlot, zeros, onesOf, missingOf}
+use Rattle.session.specs.Session.{emptySession, withId}
 use Rattle.sessions.specs.Sessions.{caseFound, slotAt, put, inserting, insert}
 use Rattle.sessions.specs.Batch.{accepting, finish, finishWords, Batch, finishAll, started, batchOf, withProgress, answered, committedTo, commit, receive}
 use Rattle.sessions.specs.History.{verdictOn, recorded, recordedAll, verdictsOn, Stands, VerdictLaw, Call, outcome, Live, BatchLaw, FreshLaw, MissingLaw}
-use Rattle.sessions.proofs.Apart.{slot-same}
+use Rattle.session.proofs.Words.{slot-same}
 use Rattle.sessions.proofs.Received.{InSlot, receiving-slot, progress-next, committed-slots}
 
 -- one message

@@ -6,7 +6,4 @@ pub mod Instance
 pub mod Judged
 pub mod Loops
 pub mod Received
-pub mod Reservations
-pub mod Sums
 pub mod Ways
-pub mod Words

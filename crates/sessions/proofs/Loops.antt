@@ -1,25 +1,25 @@
--- The loops over the slots and over a store's words: where each begins, a turn, and where it ends.
+-- The loops over the slots: where each begins, a turn, and where it ends.
 -- Assumes nothing.
 use mathlib.Core.Path.{_≡_, refl, ap, sym, _∙_}
 use mathlib.Core.Bool.{Bool, true, false}
 use mathlib.Core.List.{List, map}
-use Prim.Native.Nat.{ℕ, zero, suc, _+_, _-_, _*_, _^_, _≤_, _<_}
-use native.Mathlib.Nat.{add-assoc, add-zero, zero-add, suc-add}
+use Prim.Native.Nat.{ℕ, zero, suc, _+_, _-_, _≤_, _<_}
+use native.Mathlib.Nat.{add-zero, add-suc, zero-add, suc-add}
 use native.Mathlib.Numerals.{add-one}
 use native.Mathlib.Omega.{arith}
-use lib.Count.{ones, ones-le}
 use lib.ListN.{length, getD, drop, length-map, drop-of-length-le}
 use lib.Seq.{drop-cons}
 use borrow.Author.Tests.{eq-eqb}
 use Rattle.base.specs.Choice.{choose}
-use Rattle.sessions.specs.declared.session.Session.{Session}
-use Rattle.sessions.specs.declared.session.Time.{Time}
-use Rattle.sessions.specs.declared.session.Time.the-variants.{Never}
+use Rattle.session.specs.declared.session.Session.{Session}
+use Rattle.session.specs.declared.session.Time.{Time}
+use Rattle.session.specs.declared.session.Time.the-variants.{Never}
 use Rattle.sessions.specs.declared.sessions.Found.the-variants.{Nothing}
 use Rattle.sessions.specs.declared.sessions.Sessions.{Sessions}
 use Rattle.sessions.specs.declared.sessions.Expired.{Expired}
-use Rattle.sessions.specs.Store.{whole, onesOf, Counted, missingOf, Leaves}
-use Rattle.sessions.specs.Session.{timeLimit, emptySession, earlier}
+use Rattle.session.specs.Store.{whole, Leaves}
+use Rattle.session.specs.Session.{timeLimit, emptySession, earlier}
+use Rattle.sessions.specs.Check.{slotHolds, slotsHold}
 use Rattle.sessions.specs.Sessions.{TimesWithin, slotAt, noneFilled, slotExpiry, firstExpiry, expiredSlot, firstUnexpired, noneExpired, Expiring, Expires, expireSlot, expireFirst, expire}
 
 -- the length of a list of records, read off a field's
@@ -101,45 +101,6 @@ module _ (s : Sessions) where
   pub expiry-ends : (slot : ℕ) (earliest : Time) → slot ≤ 8 → 8 ≤ slot → earliest ≡ firstExpiry s slot → earliest ≡ firstExpiry s 8
   expiry-ends slot earliest h l e = let same : slot ≡ 8 = omega arith in e ∙ ap (firstExpiry s) same
 
--- a sum of ones under way
-pub record Ones (words : List ℕ) (i sum : ℕ) : Type 0 where
-  pub within : i ≤ length words
-  pub bound : sum ≤ 64 * i
-  pub left : sum + onesOf (drop i words) ≡ onesOf words
-
-module _ (words : List ℕ) where
-  pub ones-begin : Ones words 0 0
-  ones-begin = record { within = omega arith; bound = omega arith; left = zero-add (onesOf words) }
-
-  module _ (i sum : ℕ) (o : Ones words i sum) where
-    pub ones-more : (n : ℕ) → i < length words → n ≡ ones (getD words i 0) → n ≤ 64 → Ones words (i + 1) (sum + n)
-    unfolding onesOf
-    ones-more n h e f =
-        record {
-          within = omega arith;
-          bound = omega (arith, o .bound);
-          left = rw (add-assoc, e, add-one) (ap (λ (x : ℕ). sum + x) (rw (drop-cons words i 0 h)) ∙ o .left);
-        }
-
-    pub ones-end : length words ≤ i → length words ≤ 128 → Counted words sum
-    unfolding onesOf
-    ones-end h l =
-        record {
-          out = sym (add-zero sum) ∙ ap (λ (x : ℕ). sum + x) (sym (ap onesOf (drop-of-length-le words {i = i} h))) ∙ o .left;
-          most = omega (arith, o .bound, o .within);
-        }
-
--- the ones of a word of 64 bits
-pub ones-few : (w : ℕ) → w < 2 ^ 64 → ones w ≤ 64
-ones-few w h = ones-le 64 w h
-
-pub ones-fits : (w : ℕ) → w < 2 ^ 64 → ones w < 2 ^ 64
-ones-fits w h = omega (arith, ones-le 64 w h)
-
-pub missing-is : (words : List ℕ) (n : ℕ) → Counted words n → 8192 - n ≡ missingOf words
-unfolding missingOf
-missing-is words n e = ap (λ (x : ℕ). 8192 - x) (e .out)
-
 -- an expiry that has gone through the first slots
 pub record Gone (began : Expired) (store : List ℕ) (time slot : ℕ) (e : Expired) (left : List ℕ) : Type 0 where
   pub within : slot ≤ 8
@@ -199,3 +160,39 @@ module _ (s : Sessions) (now : ℕ) where
   unfolding expire
   expire-none store p =
       rw (slots-stay (record { expired = record { sessions = s; current = Nothing }; store = store }) 8 refl p) (same-choice (whole store) _)
+
+-- the first slots hold
+pub record SlotsYet (s : Sessions) (greatest slot : ℕ) : Type 0 where
+  pub within : slot ≤ 8
+  pub hold : slotsHold s slot greatest ≡ true
+
+module _ (s : Sessions) (greatest : ℕ) where
+  -- a slot that does not hold is not made good by later ones
+  slots-fail : (slot more : ℕ) → slotsHold s slot greatest ≡ false → slotsHold s (slot + more) greatest ≡ false
+  unfolding slotsHold choose
+  slots-fail slot zero p = rw add-zero p
+  slots-fail slot (suc more) p = rw (add-suc, slots-fail slot more p)
+
+  pub slots-begin : SlotsYet s greatest 0
+  unfolding slotsHold
+  slots-begin = record { within = omega arith; hold = refl }
+
+  module _ (slot : ℕ) (y : SlotsYet s greatest slot) where
+    pub slots-end : 8 ≤ slot → true ≡ slotsHold s 8 greatest
+    slots-end h =
+        let e : slot ≡ 8 = omega (arith, y .within) in
+        sym (rw e at (y .hold))
+
+    module _ (f : Bool) (h : slot < 8) (is : f ≡ slotHolds (slotAt s slot) slot greatest) where
+      pub slots-more : f ≡ true → SlotsYet s greatest (slot + 1)
+      unfolding slotsHold choose
+      slots-more t = record { within = omega arith; hold = rw (add-one, y .hold, ← is) t }
+
+      slot-fails : f ≡ false → slotsHold s (suc slot) greatest ≡ false
+      unfolding slotsHold choose
+      slot-fails t = rw (y .hold, ← is) t
+
+      pub slot-bad : f ≡ false → false ≡ slotsHold s 8 greatest
+      slot-bad t =
+          let e : suc slot + (7 - slot) ≡ 8 = omega arith in
+          sym (rw e at (slots-fail (suc slot) (7 - slot) (slot-fails t)))

@@ -12,17 +12,17 @@ use Rattle.base.specs.Choice.{choose}
 use Rattle.window.specs.Window.{limit, isInvalid, willAccept, nextAfter}
 use Rattle.window.proofs.Ready.{length-wordsAfter}
 use Rattle.sessions.specs.declared.batch.Progress.{Progress}
-use Rattle.sessions.specs.declared.session.Session.{Session}
+use Rattle.session.specs.declared.session.Session.{Session}
 use Rattle.sessions.specs.declared.sessions.Found.{Found}
 use Rattle.sessions.specs.declared.sessions.Found.the-variants.{Nothing, Got}
 use Rattle.sessions.specs.declared.sessions.Sessions.{Sessions}
-use Rattle.sessions.specs.Index.{slotIn}
-use Rattle.sessions.specs.Store.{slotOf}
-use Rattle.sessions.specs.Session.{expiredAt}
+use Rattle.session.specs.Index.{slotIn}
+use Rattle.session.specs.Store.{slotOf}
+use Rattle.session.specs.Session.{expiredAt}
 use Rattle.sessions.specs.Sessions.{caseFound, slotAt, inSlotOf, get, put}
 use Rattle.sessions.specs.Batch.{fits, accepting, finish, finishWords, Batch, finishAll, started, batchOf, withProgress, receivingSession, Outcome, refused, untouched, answered, committedTo, commit, receive}
 use Rattle.sessions.specs.Laws.{Kept, SlotsApart}
-use Rattle.sessions.proofs.Words.{slot-long}
+use Rattle.session.proofs.Words.{slot-long}
 use Rattle.sessions.proofs.Apart.{kept-same, kept-other, kept-insert, kept-expire}
 
 -- a session found is not nothing

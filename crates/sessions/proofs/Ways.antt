@@ -7,36 +7,18 @@ use Prim.Native.Nat.{ℕ, _+_, _-_, _*_, _%_, _^_}
 use lib.ListN.{length, set, take, drop}
 use borrow.Author.Tests.{eq-eqb, ne-eqb}
 use Rattle.base.specs.Choice.{choose}
-use Rattle.base.proofs.Choice.{yes-eq}
-use Rattle.window.specs.Window.{willAccept}
-use Rattle.sessions.specs.declared.session.Role.the-variants.{Initiator}
-use Rattle.sessions.specs.declared.session.Session.{Session}
+use Rattle.session.specs.declared.session.Session.{Session}
 use Rattle.sessions.specs.declared.sessions.Found.{Found}
 use Rattle.sessions.specs.declared.sessions.Found.the-variants.{Nothing, Got}
 use Rattle.sessions.specs.declared.sessions.Selected.the-variants.{Unset}
 use Rattle.sessions.specs.declared.sessions.Missing.the-variants.{Refused, Count}
 use Rattle.sessions.specs.declared.sessions.Sessions.{Sessions}
 use Rattle.sessions.specs.declared.sessions.Expired.{Expired}
-use Rattle.sessions.specs.Index.{slotIn, wrappingIncrement}
-use Rattle.sessions.specs.Store.{slotOf, putSlot, zeros, missingOf, Leaves}
-use Rattle.sessions.specs.Session.{newSession, withFilled, withId, emptySession, willReceive}
+use Rattle.session.specs.Index.{wrappingIncrement}
+use Rattle.session.specs.Store.{putSlot, zeros, missingOf, Leaves}
+use Rattle.session.specs.Session.{withId, emptySession}
 use Rattle.sessions.specs.Sessions.{caseFound, ring, withSlots, withCurrent, withLastIndex, withInserted, slotAt, emptySlots, newSessions, get, put, inCurrentSlot, indexAfter, nextIndex, inserting, insert, isIndex, clear, emptied, expiredSlot, discard, expireSlot, Expires, expire, missing}
-use Rattle.sessions.proofs.Words.{part-is}
-
--- an empty slot's record, made from a new session
-pub empty-is : (s : Session) → s ≡ newSession 0 0 Initiator 0 → withFilled s false ≡ emptySession
-unfolding emptySession
-empty-is s e = rw e
-
--- the early look at a part of the store
-pub looked : (s : Session) (store : List ℕ) (receiver counter start end r : ℕ) → length store ≡ 1024 → receiver ≡ s .«receiving_index»
-    → r ≡ willAccept (take (end - start) (drop start store)) (s .next) counter → start ≡ 128 * (receiver % 8) → end ≡ start + 128
-    → r ≡ willReceive s store receiver counter
-unfolding willReceive
-looked s store receiver counter start end r l i e b f =
-    yes-eq (length store) 1024 r (choose _ _ 6) 2 l
-    (yes-eq receiver (s .«receiving_index») r (willAccept (slotOf store (slotIn receiver)) (s .next) counter) 6 i
-    (e ∙ ap (λ (words : List ℕ). willAccept words (s .next) counter) (part-is store (receiver % 8) start end b f)))
+use Rattle.session.proofs.Words.{part-is}
 
 -- eight empty slots
 pub new-is : (e : Session) (index : ℕ) → e ≡ emptySession

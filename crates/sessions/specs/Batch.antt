@@ -7,14 +7,14 @@ use lib.Dec.{ltb, eqb}
 use lib.ListN.{length, getD, set}
 use Rattle.base.specs.Choice.{choose}
 use Rattle.window.specs.Window.{willAccept, nextAfter, wordsAfter}
-use Rattle.sessions.specs.Index.{slotIn}
-use Rattle.sessions.specs.Store.{whole, slotOf, putSlot}
-use Rattle.sessions.specs.Session.{withReceivedData, withNext, expiredAt}
+use Rattle.session.specs.Index.{slotIn}
+use Rattle.session.specs.Store.{whole, slotOf, putSlot}
+use Rattle.session.specs.Session.{withReceivedData, withNext, expiredAt}
 use Rattle.sessions.specs.Sessions.{caseFound, get, put}
 use Rattle.sessions.specs.declared.batch.Progress.{Progress}
 use Rattle.sessions.specs.declared.batch.Finished.{Finished}
 use Rattle.sessions.specs.declared.batch.Received.{Received}
-use Rattle.sessions.specs.declared.session.Session.{Session}
+use Rattle.session.specs.declared.session.Session.{Session}
 use Rattle.sessions.specs.declared.sessions.Found.{Found}
 use Rattle.sessions.specs.declared.sessions.Found.the-variants.{Nothing, Got}
 use Rattle.sessions.specs.declared.sessions.Sessions.{Sessions}

@@ -1,10 +1,10 @@
 -- A call of which the batch's law speaks, so that what it asks can be met: a session just inserted, and a batch that has one counter twice.
 use mathlib.Core.Path.{_≡_}
 use mathlib.Core.List.{[], _∷_}
-use Rattle.sessions.specs.declared.session.Role.the-variants.{Initiator}
-use Rattle.sessions.specs.declared.session.Session.{Session}
-use Rattle.sessions.specs.Store.{zeros}
-use Rattle.sessions.specs.Session.{newSession}
+use Rattle.session.specs.declared.session.Role.the-variants.{Initiator}
+use Rattle.session.specs.declared.session.Session.{Session}
+use Rattle.session.specs.Store.{zeros}
+use Rattle.session.specs.Session.{newSession}
 use Rattle.sessions.specs.Sessions.{Held, newSessions, insert}
 use Rattle.sessions.specs.History.{Call, outcome, Live}
 

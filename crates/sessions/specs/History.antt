@@ -8,11 +8,11 @@ use lib.ListN.{length}
 use Rattle.base.specs.Choice.{choose}
 use Rattle.window.specs.Window.{limit}
 use Rattle.window.specs.History.{member, expected, judged, amongLast, Represents}
-use Rattle.sessions.specs.declared.session.Session.{Session}
+use Rattle.session.specs.declared.session.Session.{Session}
 use Rattle.sessions.specs.declared.sessions.Found.the-variants.{Got}
 use Rattle.sessions.specs.declared.sessions.Sessions.{Sessions}
-use Rattle.sessions.specs.Index.{slotIn}
-use Rattle.sessions.specs.Store.{slotOf, missingOf}
+use Rattle.session.specs.Index.{slotIn}
+use Rattle.session.specs.Store.{slotOf, missingOf}
 use Rattle.sessions.specs.Sessions.{slotAt, insert}
 use Rattle.sessions.specs.Batch.{fits, receivingSession, Outcome, receive}
 

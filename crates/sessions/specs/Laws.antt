@@ -1,16 +1,13 @@
--- What follows from the definitions: which slots a call touches, which index is allocated, and which counters are granted.
+-- What follows from the definitions: which slots a call touches, and which index is allocated.
 use mathlib.Core.Path.{_≡_}
 use mathlib.Core.Bool.{true, false}
-use mathlib.Core.List.{List, [], _∷_, _++_}
-use Prim.Native.Nat.{ℕ, zero, suc, _+_, _/_, _<_}
-use lib.ListN.{length, getD}
-use Rattle.window.specs.Window.{limit}
-use Rattle.sessions.specs.declared.session.Session.{Session}
+use mathlib.Core.List.{List}
+use Prim.Native.Nat.{ℕ, _/_}
+use Rattle.session.specs.declared.session.Session.{Session}
 use Rattle.sessions.specs.declared.sessions.Found.the-variants.{Got}
 use Rattle.sessions.specs.declared.sessions.Sessions.{Sessions}
-use Rattle.sessions.specs.Index.{slotIn, wrappingIncrement}
-use Rattle.sessions.specs.Store.{slotOf}
-use Rattle.sessions.specs.Session.{caseReserved, reserveCounters}
+use Rattle.session.specs.Index.{slotIn, wrappingIncrement}
+use Rattle.session.specs.Store.{slotOf}
 use Rattle.sessions.specs.Sessions.{slotAt, currentOf, inCurrentSlot, nextIndex, insert, expiredSlot, expire}
 use Rattle.sessions.specs.Batch.{receive}
 
@@ -41,18 +38,3 @@ pub record NextIndexLaw (s : Sessions) : Type 0 where
   pub upper : nextIndex s .index / 256 ≡ s .«last_index» / 256
   -- the next allocation goes on from it
   pub goes-on : nextIndex s .sessions .«last_index» ≡ nextIndex s .index
-
--- so many consecutive counters
-unfoldable pub countersFrom : ℕ → ℕ → List ℕ
-countersFrom first zero = []
-countersFrom first (suc count) = first ∷ countersFrom (suc first) count
-
--- the counters that a session grants to reservations of these lengths, one after the other; a refused one grants none
-unfoldable pub granted : Session → List ℕ → List ℕ
-granted s [] = []
-granted s (len ∷ lens) = caseReserved (reserveCounters s len) (granted s lens) (λ first next. countersFrom first len ++ granted next lens)
-
--- The counters granted by a session that starts at 0: the k-th is k, and it is below LIMIT.
-pub record ReservationLaw (s : Session) (lens : List ℕ) : Type 0 where
-  pub counts : (k : ℕ) → k < length (granted s lens) → getD (granted s lens) k 0 ≡ k
-  pub below : (k : ℕ) → k < length (granted s lens) → k < limit

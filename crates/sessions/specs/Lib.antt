@@ -1,9 +1,6 @@
 pub mod Batch
+pub mod Check
 pub mod Example
 pub mod History
-pub mod Index
 pub mod Laws
-pub mod Range
-pub mod Session
 pub mod Sessions
-pub mod Store

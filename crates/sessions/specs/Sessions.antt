@@ -6,12 +6,12 @@ use Prim.Native.Nat.{ℕ, zero, suc, _+_, _%_, _^_, _≤_, _<_}
 use lib.Dec.{ltb, eqb}
 use lib.ListN.{getD, set, replicate}
 use Rattle.base.specs.Choice.{choose}
-use Rattle.sessions.specs.Index.{slotIn, wrappingIncrement}
-use Rattle.sessions.specs.Store.{whole, slotOf, putSlot, zeros, missingOf}
-use Rattle.sessions.specs.Session.{timeLimit, caseRole, earlier, withId, emptySession, expiresAt, expiredAt, shouldUseAt, sendingCounterExhausted}
-use Rattle.sessions.specs.declared.session.Time.{Time}
-use Rattle.sessions.specs.declared.session.Time.the-variants.{Never, At}
-use Rattle.sessions.specs.declared.session.Session.{Session}
+use Rattle.session.specs.Index.{slotIn, wrappingIncrement}
+use Rattle.session.specs.Store.{whole, slotOf, putSlot, zeros, missingOf}
+use Rattle.session.specs.Session.{timeLimit, caseRole, earlier, withId, emptySession, expiresAt, expiredAt, shouldUseAt, sendingCounterExhausted}
+use Rattle.session.specs.declared.session.Time.{Time}
+use Rattle.session.specs.declared.session.Time.the-variants.{Never, At}
+use Rattle.session.specs.declared.session.Session.{Session}
 use Rattle.sessions.specs.declared.sessions.Found.{Found}
 use Rattle.sessions.specs.declared.sessions.Found.the-variants.{Nothing, Got}
 use Rattle.sessions.specs.declared.sessions.Selected.{Selected}

@@ -1,14 +1,14 @@
 // A batch of received messages, over lists that the caller lends: a counter and a kind for each, and room for its verdict.
-use crate::session::Session;
 use crate::sessions::Found;
 use crate::sessions::Sessions;
+use session::session::Session;
 ghost use mathlib.Core.Bool.{false};
 ghost use mathlib.Core.Path.{_≡_};
 ghost use Prim.Native.Nat.{_<_};
 ghost use lib.Dec.{ltb};
 ghost use lib.ListN.{length};
 ghost use Rattle.base.specs.Choice.{choose};
-ghost use Rattle.sessions.specs.Store.{Leaves};
+ghost use Rattle.session.specs.Store.{Leaves};
 ghost use Rattle.sessions.specs.Batch.{known, fits, finish, finishWords, FinishesAt, started, finishAll, Finishes, Ready, FinishesSlot, withProgress, refused, answered, receivingSession, commit, receive, Receives};
 
 // The kinds of a message: it opened as data, it opened as a keepalive, or it did not open.

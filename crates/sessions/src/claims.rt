@@ -4,10 +4,10 @@ ghost use mathlib.Core.List.{List};
 ghost use Prim.Native.Nat.{ℕ};
 ghost use lib.ListN.{length};
 ghost use Rattle.window.specs.History.{Represents};
-ghost use Rattle.sessions.specs.declared.session.Session.{Session};
+ghost use Rattle.session.specs.declared.session.Session.{Session};
 ghost use Rattle.sessions.specs.declared.sessions.Sessions.{Sessions};
 ghost use Rattle.sessions.specs.Example.{ExampleLaw};
-ghost use Rattle.sessions.specs.Laws.{SlotsApart, NextIndexLaw, ReservationLaw};
+ghost use Rattle.sessions.specs.Laws.{SlotsApart, NextIndexLaw};
 ghost use Rattle.sessions.specs.History.{VerdictLaw, Call, Live, BatchLaw, FreshLaw, MissingLaw};
 
 // A batch, an insertion and an expiry leave every slot that they do not name as it was.
@@ -18,11 +18,6 @@ pub fn slots_apart()
 // The index allocated next is one or two numbers on, and never has the current session's slot.
 pub fn next_index_law()
     ensures { λ r. ⌜ ((s : Sessions) → NextIndexLaw s) ⌝ }
-{}
-
-// The counters that a session grants to any list of reservations are 0, 1, 2 on, all below the limit.
-pub fn reservation_law()
-    ensures { λ r. ⌜ ((s : Session) (lens : List ℕ) → s .«sending_key_counter» ≡ 0 → ReservationLaw s lens) ⌝ }
 {}
 
 // A message is given verdict 0 exactly if it opened and its counter is below the limit, not too old and not in the history.

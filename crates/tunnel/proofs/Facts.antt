@@ -2,12 +2,11 @@
 -- Assumes nothing.
 use mathlib.Core.Path.{_≡_, sym, _∙_}
 use mathlib.Core.Bool.{Bool, true}
-use lib.Dec.{leb}
 use borrow.Author.Tests.{leb-true, le-leb}
 use Rattle.control.proofs.Facts.{first, second, joined, control-facts, control-holds}
 use Rattle.control.proofs.Later.{control-later}
 use Rattle.control.specs.Facts.{ControlWithin}
-use Rattle.sessions.specs.Session.{timeLimit}
+use Rattle.session.specs.Session.{timeLimit}
 use Rattle.tunnel.specs.Check.{undamaged}
 use Rattle.tunnel.specs.Facts.{Undamaged, FactsOfUndamaged}
 use Rattle.tunnel.specs.declared.tunnel.Tunnel.{Tunnel}

@@ -19,9 +19,9 @@ use Rattle.control.specs.declared.answer.Answer.the-variants.{Done, Deadline}
 use Rattle.control.specs.declared.control.Out.{Out}
 use Rattle.parts.specs.RingBuffer.{RingWithin}
 use Rattle.parts.specs.Timers.{maxJitter, greatestInterval}
-use Rattle.sessions.specs.Session.{timeLimit}
-use Rattle.sessions.specs.Store.{Leaves, whole, zeros}
-use Rattle.sessions.specs.declared.session.Time.{Time}
+use Rattle.session.specs.Session.{timeLimit}
+use Rattle.session.specs.Store.{Leaves, whole, zeros}
+use Rattle.session.specs.declared.session.Time.{Time}
 use Rattle.tunnel.proofs.Facts.{let-through}
 use Rattle.tunnel.specs.Arguments.{openingOutcome, initiationOutcome, lacking, badOutcome, badJitter, creationNumber}
 use Rattle.tunnel.specs.Check.{undamaged}

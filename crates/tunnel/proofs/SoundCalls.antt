@@ -20,10 +20,10 @@ use Rattle.parts.proofs.Queue.{queue-of-newest}
 use Rattle.parts.specs.Timers.{IntervalWithin, greatestInterval}
 use Rattle.parts.specs.declared.timers.Interval.the-variants.{Off, Every}
 use Rattle.parts.specs.declared.timers.Interval.{Interval}
-use Rattle.sessions.proofs.Apart.{length-zeros}
-use Rattle.sessions.specs.Session.{timeLimit}
+use Rattle.session.proofs.Words.{length-zeros}
+use Rattle.session.specs.Session.{timeLimit}
 use Rattle.sessions.specs.Sessions.{newSessions}
-use Rattle.sessions.specs.Store.{whole}
+use Rattle.session.specs.Store.{whole}
 use Rattle.tunnel.proofs.Facts.{undamaged-facts, undamaged-holds}
 use Rattle.tunnel.proofs.Framed.{gate-onward, gate-now, gate-good, small-jitter, GoodCreation, good-creation}
 use Rattle.tunnel.specs.Arguments.{intervalOf, openingOutcome, initiationOutcome, lacking, badOutcome, creationNumber}

@@ -8,8 +8,8 @@ use Rattle.parts.specs.Timers.{maxJitter, greatestInterval}
 use Rattle.parts.specs.declared.timers.Interval.{Interval}
 use Rattle.parts.specs.declared.timers.Interval.the-variants.{Off, Every}
 use Rattle.sessions.specs.Batch.{fits}
-use Rattle.sessions.specs.Session.{timeLimit}
-use Rattle.sessions.specs.Store.{whole}
+use Rattle.session.specs.Session.{timeLimit}
+use Rattle.session.specs.Store.{whole}
 
 -- the keepalive interval that a number of seconds stands for: 0 is none
 unfoldable pub intervalOf : ℕ → Interval

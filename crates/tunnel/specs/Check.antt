@@ -2,8 +2,8 @@
 use mathlib.Core.Bool.{Bool}
 use lib.Dec.{leb}
 use Rattle.control.specs.Check.{controlHolds}
-use Rattle.parts.specs.Check.{_and_}
-use Rattle.sessions.specs.Session.{timeLimit}
+use Rattle.base.specs.Choice.{_and_}
+use Rattle.session.specs.Session.{timeLimit}
 use Rattle.tunnel.specs.declared.tunnel.Tunnel.{Tunnel}
 
 -- number 14 lets the tunnel through: the greatest time is at most the limit, and the last update and the control hold below it

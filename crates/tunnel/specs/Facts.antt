@@ -3,7 +3,7 @@ use mathlib.Core.Path.{_≡_}
 use mathlib.Core.Bool.{true}
 use Prim.Native.Nat.{_≤_}
 use Rattle.control.specs.Facts.{ControlWithin}
-use Rattle.sessions.specs.Session.{timeLimit}
+use Rattle.session.specs.Session.{timeLimit}
 use Rattle.tunnel.specs.Check.{undamaged}
 use Rattle.tunnel.specs.declared.tunnel.Tunnel.{Tunnel}
 

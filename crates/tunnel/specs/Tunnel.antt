@@ -1,6 +1,6 @@
 -- The calls: the checks 1, 2, 14 and 13 as one frame around what the Rust does, then the answer.
 use mathlib.Core.Path.{_≡_}
-use mathlib.Core.Bool.{Bool, true, false}
+use mathlib.Core.Bool.{Bool, false}
 use mathlib.Core.List.{List}
 use Prim.Native.Nat.{ℕ}
 use lib.Dec.{ltb, eqb}
@@ -13,8 +13,8 @@ use Rattle.waking.specs.Waking.{handleTimeout}
 use Rattle.control.specs.declared.answer.Answer.the-variants.{No, Done, Deadline}
 use Rattle.control.specs.declared.answer.Answer.{Answer}
 use Rattle.control.specs.declared.control.Out.{Out}
-use Rattle.sessions.specs.Session.{timeLimit}
-use Rattle.sessions.specs.Store.{zeros}
+use Rattle.session.specs.Session.{timeLimit}
+use Rattle.session.specs.Store.{zeros}
 use Rattle.tunnel.specs.Arguments.{intervalOf, openingOutcome, initiationOutcome, lacking, badOutcome, badJitter, badBatch, creationNumber}
 use Rattle.tunnel.specs.Check.{undamaged}
 use Rattle.tunnel.specs.declared.tunnel.Answered.{Answered}

@@ -11,13 +11,13 @@ use crate::arguments::opening_outcome;
 use control::answer::Answer;
 use control::control::Control;
 use control::control::Out;
-use sessions::store::zero;
+use session::store::zero;
 use waking::handle_timeout;
 ghost use mathlib.Core.Path.{_≡_};
 ghost use lib.Dec.{ltb};
 ghost use Rattle.base.specs.Choice.{choose};
-ghost use Rattle.sessions.specs.Session.{timeLimit};
-ghost use Rattle.sessions.specs.Store.{Leaves};
+ghost use Rattle.session.specs.Session.{timeLimit};
+ghost use Rattle.session.specs.Store.{Leaves};
 ghost use Rattle.tunnel.specs.Tunnel.{made, refused, settled, LeavesBatch, callNew, callStart, callRestart, callSend, callReceive, callLook, callInitiation, callResponse, callCookie, callTimeout, callEvent, callDeadline, callMissing};
 
 // The greatest time that a call may have.

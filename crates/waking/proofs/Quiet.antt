@@ -10,22 +10,24 @@ use lib.Dec.{ltb, leb}
 use borrow.Author.Tests.{ltb-true, ltb-false, leb-false, lt-leb}
 use Rattle.base.proofs.Choice.{no-flag}
 use Rattle.base.specs.Choice.{choose}
+use Rattle.control.specs.Control.{withHandshake}
 use Rattle.control.specs.Deadlines.{scheduledHandshake, earliestExpiry, cookieDeadline, rejectDeadline, attemptDeadline, handshakeRekeyTimeout, rekeyOnSend, rekeyAfterMessages, rekeyOnReceive, responseDeadline, passiveDeadline, persistentDeadline, currentPersistentDeadline, commonDeadline, rekeyDeadline, keepaliveDeadline, unscheduledDeadline, nextDeadline}
 use Rattle.control.specs.declared.control.Control.{Control}
+use Rattle.parts.specs.Handshake.{expireCookie}
 use Rattle.parts.specs.Timers.{caseInterval, nextPersistentKeepalive}
 use Rattle.parts.specs.declared.timers.Interval.the-variants.{Off}
 use Rattle.parts.specs.declared.timers.Interval.{Interval}
 use Rattle.sessions.proofs.Loops.{expire-none}
-use Rattle.sessions.specs.Session.{caseTime, dueBy, least, earlier, expiresAt, expiredAt}
+use Rattle.session.specs.Session.{caseTime, dueBy, least, earlier, expiresAt, expiredAt}
 use Rattle.sessions.specs.Sessions.{caseFound, currentOf, slotAt, expiredSlot, firstUnexpired, expire, slotExpiry, firstExpiry, nextExpiry}
-use Rattle.sessions.specs.declared.session.Session.{Session}
-use Rattle.sessions.specs.declared.session.Time.the-variants.{Never, At}
-use Rattle.sessions.specs.declared.session.Time.{Time}
+use Rattle.session.specs.declared.session.Session.{Session}
+use Rattle.session.specs.declared.session.Time.the-variants.{Never, At}
+use Rattle.session.specs.declared.session.Time.{Time}
 use Rattle.sessions.specs.declared.sessions.Found.the-variants.{Nothing, Got}
 use Rattle.sessions.specs.declared.sessions.Found.{Found}
 use Rattle.sessions.specs.declared.sessions.Sessions.{Sessions}
 use Rattle.waking.specs.Quiet.{Early, QuietLaw}
-use Rattle.waking.specs.Waking.{inner, persistentKeepalive, keepalives, rekeyDue, wakeIdle, wakeInProgress, expireCookie, wakeLater, wakeRest, wakeCurrent, wakeSessions, wake}
+use Rattle.waking.specs.Waking.{inner, keepaliveDue, keepalives, rekeyDue, wakeIdle, wakeInProgress, wakeLater, wakeRest, wakeCurrent, wakeSessions, wake}
 
 -- a value picked by a test that fails
 module _ {A : Type 0} where
@@ -89,15 +91,11 @@ module _ (c : Control) (now : ℕ) where
   ]
 
   -- no keepalive is queued
-  no-persistent : dueBy (persistentDeadline c) now ≡ false → persistentKeepalive c false now ≡ c
-  unfolding persistentKeepalive
-  no-persistent p = otherwise _ _ _ c p (otherwise false _ _ c refl refl)
-
   no-keepalives : Early c now → dueBy (keepaliveDeadline c) now ≡ false → keepalives c now ≡ c
-  unfolding keepaliveDeadline keepalives
+  unfolding keepaliveDeadline keepaliveDue keepalives
   no-keepalives h p =
       let n = neither (passiveDeadline c) (currentPersistentDeadline c) now p in
-      otherwise _ _ _ c (n .first) (no-persistent (persistent-waits h (n .second)))
+      otherwise _ _ _ c (otherwise _ _ _ false (n .first) (persistent-waits h (n .second))) refl
 
   -- no handshake is required
   no-rekey : dueBy (rekeyDeadline c) now ≡ false → rekeyDue c now ≡ false
@@ -109,9 +107,9 @@ module _ (c : Control) (now : ℕ) where
       otherwise _ _ _ false (a .first) (otherwise _ _ _ false (a .second) (otherwise _ _ _ false (b .first) (b .second)))
 
   -- the cookie stays
-  cookie-stays : dueBy (cookieDeadline c) now ≡ false → expireCookie c now ≡ c
-  unfolding expireCookie
-  cookie-stays p = otherwise _ _ _ c p refl
+  cookie-stays : dueBy (cookieDeadline c) now ≡ false → withHandshake c (expireCookie (c .handshake) now) ≡ c
+  unfolding expireCookie cookieDeadline
+  cookie-stays p = ap (withHandshake c) (otherwise _ _ _ (c .handshake) p refl)
 
   module _ (store : List ℕ) (jitter : ℕ) (h : Early c now) where
     idle-quiet : dueBy (earlier (rekeyDeadline c) (keepaliveDeadline c)) now ≡ false → wakeIdle c false jitter now ≡ c

@@ -1,7 +1,7 @@
 -- The waking keeps a sound control sound.
 -- Assumes nothing.
 use mathlib.Core.Path.{_≡_}
-use mathlib.Core.Bool.{Bool, true, false}
+use mathlib.Core.Bool.{true}
 use mathlib.Core.List.{List}
 use Prim.Native.Nat.{ℕ, _≤_}
 use native.Mathlib.Omega.{arith}
@@ -11,13 +11,15 @@ use Rattle.control.proofs.SoundOperations.{SoundOut, done-sound, raising}
 use Rattle.control.proofs.SoundSending.{of-datagram, sound-encrypted, sound-initiated}
 use Rattle.control.proofs.SoundSteps.{SoundControl, expire-sound, clear-sound, its-sessions, sound-timers, sound-handshake, sound-sessions, sound-queued, sound-later}
 use Rattle.control.proofs.Steps.{of-choice}
-use Rattle.control.specs.Control.{Turn}
+use Rattle.control.specs.Control.{Turn, withHandshake}
 use Rattle.control.specs.declared.control.Control.{Control}
-use Rattle.parts.specs.Handshake.{setExpired}
-use Rattle.parts.specs.Timers.{maxJitter}
+use Rattle.parts.specs.Handshake.{HandshakeWithin, setExpired, expireCookie}
+use Rattle.parts.specs.Timers.{TimersWithin, maxJitter}
 use Rattle.parts.specs.declared.event.Event.the-variants.{SendHandshakeInitiation, SendKeepalive, ConnectionExpired}
+use Rattle.parts.specs.declared.handshake.Handshake.{Handshake}
+use Rattle.parts.specs.declared.timers.Timers.{Timers}
 use Rattle.waking.proofs.Wakings.{WakingKeeps, of-wake}
-use Rattle.waking.specs.Waking.{clearAll, expireControl, scheduling, queueKeepalive, persistentKeepalive, keepalives, expireCookie, sendScheduled, wake, handleTimeout}
+use Rattle.waking.specs.Waking.{clearAll, expireControl, scheduling, queueKeepalive, passiveTimers, keepaliveTimers, sendKeepalive, keepalives, sendScheduled, wake, handleTimeout}
 
 module _ (most now : ℕ) (h : now ≤ most) where
   -- the keepalives that are due queued, the scheduled handshake sent, the cookie dropped, the connection ended
@@ -27,19 +29,19 @@ module _ (most now : ℕ) (h : now ≤ most) where
       of-datagram (λ (y : Control). SoundControl y most) _ _ _ (sound-encrypted most now h c w)
       (λ a b. sound-queued _ most (sound-encrypted most now h c w) (SendKeepalive a b) (no-times _ most (λ x y p. let z : _≡_ {A = ℕ} 0 1 = cc in omega arith)))
 
-  sound-persistent : (c : Control) (required : Bool) → SoundControl c most → SoundControl (persistentKeepalive c required now) most
-  unfolding persistentKeepalive
-  sound-persistent c required w =
-      of-choice (λ (y : Control). SoundControl y most) _ _ _
-      (sound-keepalive _ (sound-timers c most w _ (on-kept (c .timers) most now (w .within .timers) h)))
-      (of-choice (λ (y : Control). SoundControl y most) _ _ _ (sound-keepalive c w) w)
+  within-passive : (c : Control) → TimersWithin (c .timers) most → TimersWithin (passiveTimers c now) most
+  unfolding passiveTimers
+  within-passive c w = of-choice (λ (t : Timers). TimersWithin t most) _ _ _ (on-consume (c .timers) most w) w
+
+  within-keepalives : (c : Control) → TimersWithin (c .timers) most → TimersWithin (keepaliveTimers c now) most
+  unfolding keepaliveTimers
+  within-keepalives c w =
+      of-choice (λ (t : Timers). TimersWithin t most) _ _ _ (on-kept (passiveTimers c now) most now (within-passive c w) h) (within-passive c w)
 
   sound-keepalives : (c : Control) → SoundControl c most → SoundControl (keepalives c now) most
-  unfolding keepalives
+  unfolding keepalives sendKeepalive
   sound-keepalives c w =
-      of-choice (λ (y : Control). SoundControl y most) _ _ _
-      (sound-persistent _ true (sound-timers c most w _ (on-consume (c .timers) most (w .within .timers))))
-      (sound-persistent c false w)
+      of-choice (λ (y : Control). SoundControl y most) _ _ _ (sound-keepalive _ (sound-timers c most w _ (within-keepalives c (w .within .timers)))) w
 
   sound-scheduled : (c : Control) → SoundControl c most → SoundControl (sendScheduled c now) most
   unfolding sendScheduled
@@ -47,10 +49,11 @@ module _ (most now : ℕ) (h : now ≤ most) where
       sound-queued _ most (sound-initiated most now h _ (sound-timers c most w _ (on-cancel (c .timers) most (w .within .timers)))) (SendHandshakeInitiation _)
       (no-times _ most (λ x y p. let z : _≡_ {A = ℕ} 0 1 = cc in omega arith))
 
-  sound-cookie : (c : Control) → SoundControl c most → SoundControl (expireCookie c now) most
+  sound-cookie : (c : Control) → SoundControl c most → SoundControl (withHandshake c (expireCookie (c .handshake) now)) most
   unfolding expireCookie
   sound-cookie c w =
-      of-choice (λ (y : Control). SoundControl y most) _ _ _ (sound-handshake c most w _ (on-clear-cookie (c .handshake) most (w .within .handshake))) w
+      sound-handshake c most w _
+      (of-choice (λ (k : Handshake). HandshakeWithin k most) _ _ _ (on-clear-cookie (c .handshake) most (w .within .handshake)) (w .within .handshake))
 
   sound-cleared : (c : Control) (store : List ℕ) → SoundControl c most → SoundControl (clearAll c store now .control) most
   unfolding clearAll

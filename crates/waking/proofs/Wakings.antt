@@ -4,21 +4,22 @@ use mathlib.Core.Bool.{Bool, false}
 use mathlib.Core.List.{List}
 use Prim.Native.Nat.{ℕ}
 use Rattle.control.proofs.Steps.{of-choice, of-found}
-use Rattle.control.specs.Control.{Inner, withSessions}
+use Rattle.control.specs.Control.{Inner, withHandshake, withSessions}
 use Rattle.control.specs.declared.control.Control.{Control}
-use Rattle.sessions.specs.Session.{caseTime}
+use Rattle.parts.specs.Handshake.{expireCookie}
+use Rattle.session.specs.Session.{caseTime}
 use Rattle.sessions.specs.Sessions.{expire}
-use Rattle.sessions.specs.declared.session.Time.the-variants.{Never, At}
-use Rattle.sessions.specs.declared.session.Time.{Time}
+use Rattle.session.specs.declared.session.Time.the-variants.{Never, At}
+use Rattle.session.specs.declared.session.Time.{Time}
 use Rattle.sessions.specs.declared.sessions.Found.{Found}
-use Rattle.waking.specs.Waking.{expireControl, scheduling, keepalives, wakeIdle, wakeInProgress, expireCookie, wakeLater, wakeRest, wakeCurrent, wakeSessions, sendScheduled, wake}
+use Rattle.waking.specs.Waking.{expireControl, scheduling, keepalives, wakeIdle, wakeInProgress, wakeLater, wakeRest, wakeCurrent, wakeSessions, sendScheduled, wake}
 
 -- the steps of a waking keep what is said of a control and its store
 pub record WakingKeeps (P : Control → List ℕ → Type 0) (jitter now : ℕ) : Type 0 where
   pub sends : (c : Control) (store : List ℕ) → P c store → P (sendScheduled c now) store
   pub schedules : (c : Control) (store : List ℕ) → P c store → P (scheduling c jitter now) store
   pub keeps-alive : (c : Control) (store : List ℕ) → P c store → P (keepalives c now) store
-  pub drops : (c : Control) (store : List ℕ) → P c store → P (expireCookie c now) store
+  pub drops : (c : Control) (store : List ℕ) → P c store → P (withHandshake c (expireCookie (c .handshake) now)) store
   pub ends : (c : Control) (store : List ℕ) → P c store → P (expireControl c store now .control) (expireControl c store now .store)
   pub expires : (c : Control) (store : List ℕ) → P c store
       → P (withSessions c (expire (c .sessions) store now .expired .sessions)) (expire (c .sessions) store now .store)
@@ -49,7 +50,7 @@ module _ (P : Control → List ℕ → Type 0) (jitter now : ℕ) (k : WakingKee
   of-rest : (c : Control) (store : List ℕ) (required : Bool) → P c store → Holds (wakeRest c store required jitter now)
   unfolding wakeRest wakeLater
   of-rest c store required w =
-      let v : P (expireCookie c now) store = k .drops c store w in
+      let v : P (withHandshake c (expireCookie (c .handshake) now)) store = k .drops c store w in
       of-choice Holds _ _ _ (k .ends _ store v) (of-time Holds _ _ _ (of-idle _ store required v) (λ at. of-progress _ store required v))
 
   of-current : (c : Control) (store : List ℕ) (expired : Found) → P c store → Holds (wakeCurrent c store expired jitter now)

@@ -4,37 +4,36 @@ use mathlib.Core.Path.{_≡_, refl, sym, _∙_}
 use mathlib.Core.Bool.{Bool, true, false}
 use mathlib.Core.List.{List}
 use Prim.Native.Nat.{ℕ, _+_}
-use native.Mathlib.Omega.{arith}
 use Rattle.base.specs.Choice.{choose}
 use Rattle.control.specs.Control.{Inner, withHandshake, withSessions, withTimers, withEvents, outcome, done, expiredControl, queueing}
-use Rattle.control.specs.Deadlines.{scheduledHandshake, cookieDeadline, rejectDeadline, attemptDeadline, handshakeRekeyTimeout, foundOnSend, foundAfterMessages, foundOnReceive, rekeyOnSend, rekeyAfterMessages, rekeyOnReceive, responseDeadline, passiveDeadline, persistentDeadline}
+use Rattle.control.specs.Deadlines.{scheduledHandshake, rejectDeadline, attemptDeadline, handshakeRekeyTimeout, foundOnSend, foundAfterMessages, foundOnReceive, responseDeadline, passiveDeadline, persistentDeadline}
 use Rattle.control.specs.Messages.{initiate}
 use Rattle.control.specs.Transport.{caseDatagram, encryptKeepalive}
 use Rattle.control.specs.declared.answer.Answer.the-variants.{NoAnswer}
 use Rattle.control.specs.declared.control.Control.{Control}
 use Rattle.control.specs.declared.control.Out.{Out}
 use Rattle.control.specs.declared.messages.Initiated.{Initiated}
-use Rattle.parts.specs.Handshake.{setExpired, cookieExpiration, clearCookie, expireCookieOf}
+use Rattle.parts.specs.Handshake.{setExpired, expireCookie}
 use Rattle.parts.specs.RingBuffer.{RingWithin, pushBack}
-use Rattle.parts.specs.Timers.{nextPersistentKeepalive, clearTimers, tickLastPacketSent, scheduleHandshake, cancelScheduledHandshake, consumePassiveKeepalive, tickPersistentKeepalive}
+use Rattle.parts.specs.Timers.{clearTimers, tickLastPacketSent, scheduleHandshake, cancelScheduledHandshake, consumePassiveKeepalive, tickPersistentKeepalive}
 use Rattle.parts.specs.declared.event.Event.the-variants.{SendHandshakeInitiation, SendKeepalive, ConnectionExpired}
 use Rattle.parts.specs.declared.handshake.Handshake.{Handshake}
 use Rattle.parts.specs.declared.ring_buffer.RingBuffer.{RingBuffer}
 use Rattle.parts.specs.declared.timers.Timers.{Timers}
 use Rattle.sessions.proofs.Loops.{expire-none}
-use Rattle.sessions.specs.Session.{caseTime, caseReserved, dueBy, reserveCounters}
+use Rattle.session.specs.Session.{caseTime, caseReserved, dueBy, reserveCounters}
 use Rattle.sessions.specs.Sessions.{caseFound, currentOf, put, sendingSession, clear, noneExpired, expire}
-use Rattle.sessions.specs.Store.{Leaves}
-use Rattle.sessions.specs.declared.session.Reserved.the-variants.{TooFew, First}
-use Rattle.sessions.specs.declared.session.Reserved.{Reserved}
-use Rattle.sessions.specs.declared.session.Session.{Session}
-use Rattle.sessions.specs.declared.session.Time.the-variants.{Never, At}
-use Rattle.sessions.specs.declared.session.Time.{Time}
+use Rattle.session.specs.Store.{Leaves}
+use Rattle.session.specs.declared.session.Reserved.the-variants.{TooFew, First}
+use Rattle.session.specs.declared.session.Reserved.{Reserved}
+use Rattle.session.specs.declared.session.Session.{Session}
+use Rattle.session.specs.declared.session.Time.the-variants.{Never, At}
+use Rattle.session.specs.declared.session.Time.{Time}
 use Rattle.sessions.specs.declared.sessions.Expired.{Expired}
 use Rattle.sessions.specs.declared.sessions.Found.the-variants.{Nothing, Got}
 use Rattle.sessions.specs.declared.sessions.Found.{Found}
 use Rattle.sessions.specs.declared.sessions.Sessions.{Sessions}
-use Rattle.waking.specs.Waking.{clearAll, expireControl, scheduling, queueKeepalive, persistentKeepalive, keepaliveDue, keepaliveTimers, sendKeepalive, keepalives, rekeyDue, wakeIdle, wakeInProgress, expireCookie, wakeLater, wakeRest, isLost, isReplaced, wakeCurrent, wakeSessions, sendScheduled, wake, handleTimeout}
+use Rattle.waking.specs.Waking.{clearAll, expireControl, scheduling, queueKeepalive, keepaliveDue, passiveTimers, keepaliveTimers, sendKeepalive, keepalives, rekeyDue, wakeIdle, wakeInProgress, wakeLater, wakeRest, isLost, isReplaced, wakeCurrent, wakeSessions, sendScheduled, wake, handleTimeout}
 
 -- a handshake scheduled
 chain-scheduled : (c : Control) (jitter now : ℕ) (t : Timers) → t ≡ scheduleHandshake (c .timers) (now + jitter) → withTimers c t ≡ scheduling c jitter now
@@ -92,25 +91,25 @@ module _ (c : Control) (now : ℕ) (flag : Bool) (at : Time) (a : at ≡ passive
   unfolding keepaliveDue choose
   passive-none out next n b o = rw (← a, ← f, n, ← b) o
 
--- the timers after both keepalives, after the passive one, after the persistent one, and after none
-module _ (c : Control) (now : ℕ) (persistent : Bool) (next : Time) (b : next ≡ persistentDeadline c) (g : persistent ≡ dueBy next now) (passive : Bool) (last : Time) (a : last ≡ passiveDeadline c) (f : passive ≡ dueBy last now) where
-  module _ (y : passive ≡ true) (t : Timers) (p : t ≡ consumePassiveKeepalive (c .timers)) where
-    pub timers-both : (out : Timers) → persistent ≡ true → out ≡ tickPersistentKeepalive t now → out ≡ keepaliveTimers c now
-    unfolding keepaliveTimers choose
-    timers-both out z o = rw (← a, ← f, y, ← b, ← g, z, ← p) o
+-- the timers after the passive keepalive, if it is due, and after the persistent one
+module _ (c : Control) (now : ℕ) (flag : Bool) (at : Time) (f : flag ≡ dueBy at now) where
+  module _ (a : at ≡ passiveDeadline c) where
+    pub timers-consumed : (out : Timers) → flag ≡ true → out ≡ consumePassiveKeepalive (c .timers) → out ≡ passiveTimers c now
+    unfolding passiveTimers choose
+    timers-consumed out y o = rw (← a, ← f, y) o
 
-    pub timers-passive : persistent ≡ false → t ≡ keepaliveTimers c now
-    unfolding keepaliveTimers choose
-    timers-passive z = rw (← a, ← f, y, ← b, ← g, z, ← p)
+    pub timers-awaited : flag ≡ false → c .timers ≡ passiveTimers c now
+    unfolding passiveTimers choose
+    timers-awaited n = rw (← a, ← f, n)
 
-  module _ (n : passive ≡ false) where
-    pub timers-persistent : (out : Timers) → persistent ≡ true → out ≡ tickPersistentKeepalive (c .timers) now → out ≡ keepaliveTimers c now
+  module _ (a : at ≡ persistentDeadline c) (t : Timers) (p : t ≡ passiveTimers c now) where
+    pub timers-ticked : (out : Timers) → flag ≡ true → out ≡ tickPersistentKeepalive t now → out ≡ keepaliveTimers c now
     unfolding keepaliveTimers choose
-    timers-persistent out z o = rw (← a, ← f, n, ← b, ← g, z) o
+    timers-ticked out y o = rw (← a, ← f, y, ← p) o
 
-    pub timers-kept : persistent ≡ false → c .timers ≡ keepaliveTimers c now
+    pub timers-kept : flag ≡ false → t ≡ keepaliveTimers c now
     unfolding keepaliveTimers choose
-    timers-kept z = rw (← a, ← f, n, ← b, ← g, z)
+    timers-kept n = rw (← a, ← f, n, ← p)
 
 -- a keepalive sent
 pub sent-keepalive : (c out : Control) (now : ℕ) (t : Timers) → t ≡ keepaliveTimers c now → out ≡ queueKeepalive (withTimers c t) now
@@ -118,49 +117,34 @@ pub sent-keepalive : (c out : Control) (now : ℕ) (t : Timers) → t ≡ keepal
 unfolding sendKeepalive
 sent-keepalive c out now t p o = rw (← p) o
 
--- the keepalives, where one is due and where none is, by whether the passive one and the persistent one are
+-- the keepalives, where one is due and where none is
 module _ (c : Control) (now : ℕ) where
-  keepalives-by : (passive persistent : Bool) → dueBy (passiveDeadline c) now ≡ passive → dueBy (persistentDeadline c) now ≡ persistent
-      → choose passive true persistent ≡ true → queueKeepalive (withTimers c (keepaliveTimers c now)) now ≡ keepalives c now
-  unfolding keepalives persistentKeepalive keepaliveTimers persistentDeadline nextPersistentKeepalive consumePassiveKeepalive choose
-  keepalives-by true true e f d = rw (e, f)
-  keepalives-by true false e f d = rw (e, f)
-  keepalives-by false true e f d = rw (e, f)
-  keepalives-by false false e f d = let z : _≡_ {A = ℕ} 0 1 = cc in absurd (omega arith)
-
-  none-by : (passive persistent : Bool) → dueBy (passiveDeadline c) now ≡ passive → dueBy (persistentDeadline c) now ≡ persistent
-      → choose passive true persistent ≡ false → c ≡ keepalives c now
-  unfolding keepalives persistentKeepalive choose
-  none-by true persistent e f d = let z : _≡_ {A = ℕ} 0 1 = cc in absurd (omega arith)
-  none-by false true e f d = let z : _≡_ {A = ℕ} 0 1 = cc in absurd (omega arith)
-  none-by false false e f d = rw (e, f)
-
   keepalives-due : keepaliveDue c now ≡ true → sendKeepalive c now ≡ keepalives c now
-  unfolding keepaliveDue sendKeepalive
-  keepalives-due d = keepalives-by (dueBy (passiveDeadline c) now) (dueBy (persistentDeadline c) now) refl refl d
+  unfolding keepalives choose
+  keepalives-due d = rw d
 
   keepalives-none : keepaliveDue c now ≡ false → c ≡ keepalives c now
-  unfolding keepaliveDue
-  keepalives-none d = none-by (dueBy (passiveDeadline c) now) (dueBy (persistentDeadline c) now) refl refl d
+  unfolding keepalives choose
+  keepalives-none d = rw d
 
 -- a handshake is required for the first, the second or the third reason, or by the fourth alone
 module _ (c : Control) (now : ℕ) (found : Found) (l : found ≡ currentOf (c .sessions)) (flag : Bool) (at : Time) (a : at ≡ foundOnSend found) (f : flag ≡ dueBy at now) where
   pub rekey-first : flag ≡ true → true ≡ rekeyDue c now
-  unfolding rekeyDue rekeyOnSend foundOnSend choose
+  unfolding rekeyDue choose
   rekey-first y = rw (← l, ← a, ← f, y)
 
   module _ (n : flag ≡ false) (flag2 : Bool) (at2 : Time) (a2 : at2 ≡ foundAfterMessages found (c .timers .«time_last_packet_sent»)) (f2 : flag2 ≡ dueBy at2 now) where
     pub rekey-second : flag2 ≡ true → true ≡ rekeyDue c now
-    unfolding rekeyDue rekeyOnSend rekeyAfterMessages foundOnSend foundAfterMessages choose
+    unfolding rekeyDue choose
     rekey-second y = rw (← l, ← a, ← f, n, ← a2, ← f2, y)
 
     module _ (n2 : flag2 ≡ false) (flag3 : Bool) (at3 : Time) (a3 : at3 ≡ foundOnReceive found) (f3 : flag3 ≡ dueBy at3 now) where
       pub rekey-third : flag3 ≡ true → true ≡ rekeyDue c now
-      unfolding rekeyDue rekeyOnSend rekeyAfterMessages rekeyOnReceive foundOnSend foundAfterMessages foundOnReceive choose
+      unfolding rekeyDue choose
       rekey-third y = rw (← l, ← a, ← f, n, ← a2, ← f2, n2, ← a3, ← f3, y)
 
       pub rekey-fourth : (out : Bool) (at4 : Time) → flag3 ≡ false → at4 ≡ responseDeadline c → out ≡ dueBy at4 now → out ≡ rekeyDue c now
-      unfolding rekeyDue rekeyOnSend rekeyAfterMessages rekeyOnReceive foundOnSend foundAfterMessages foundOnReceive choose
+      unfolding rekeyDue choose
       rekey-fourth out at4 n3 a4 o = rw (← l, ← a, ← f, n, ← a2, ← f2, n2, ← a3, ← f3, n3, ← a4) o
 
 -- an initiation awaits a response: given up, retried, required, or waited for
@@ -199,16 +183,6 @@ module _ (c : Control) (required : Bool) (jitter now : ℕ) (out : Control) wher
   unfolding wakeIdle choose
   idle-kept n m o = rw (n, m) o
 
--- the cookie dropped if it has expired
-cookie-choice : (c : Control) (flag : Bool) (h : Handshake) → withHandshake c (choose flag h (c .handshake)) ≡ choose flag (withHandshake c h) c
-unfolding choose
-cookie-choice c true h = refl
-cookie-choice c false h = refl
-
-cookie-dropped : (c : Control) (h : Handshake) (now : ℕ) → h ≡ expireCookieOf (c .handshake) now → withHandshake c h ≡ expireCookie c now
-unfolding expireCookie expireCookieOf cookieDeadline
-cookie-dropped c h now e = rw e (cookie-choice c (dueBy (cookieExpiration (c .handshake)) now) (clearCookie (c .handshake)))
-
 -- the connection expires for want of a handshake; no initiation awaits a response, or one does
 module _ (c : Control) (store : List ℕ) (required : Bool) (jitter now : ℕ) (flag : Bool) (at : Time) (a : at ≡ rejectDeadline c) (f : flag ≡ dueBy at now) where
   later-ended : (out : Control) (left : List ℕ) → flag ≡ true → Makes out left (expireControl c store now)
@@ -227,11 +201,11 @@ module _ (c : Control) (store : List ℕ) (required : Bool) (jitter now : ℕ) (
     later-progress out left sent m o = rw (← a, ← f, n, ← b, m) o
 
 -- the rest of the waking, once the cookie is dropped: the connection expires for want of a handshake
-module _ (c : Control) (h : Handshake) (store : List ℕ) (required : Bool) (jitter now : ℕ) (e : h ≡ expireCookieOf (c .handshake) now) (flag : Bool) (at : Time) (a : at ≡ rejectDeadline (withHandshake c h)) (f : flag ≡ dueBy at now) where
+module _ (c : Control) (h : Handshake) (store : List ℕ) (required : Bool) (jitter now : ℕ) (e : h ≡ expireCookie (c .handshake) now) (flag : Bool) (at : Time) (a : at ≡ rejectDeadline (withHandshake c h)) (f : flag ≡ dueBy at now) where
   rested : (out : Control) (left : List ℕ) → Makes out left (wakeLater (withHandshake c h) store required jitter now)
       → Makes out left (wakeRest c store required jitter now)
   unfolding wakeRest
-  rested out left o = rw (← cookie-dropped c h now e) o
+  rested out left o = rw (← e) o
 
   pub rest-ended : (out : Control) (left : List ℕ) → flag ≡ true → Makes out left (expireControl (withHandshake c h) store now)
       → Makes out left (wakeRest c store required jitter now)

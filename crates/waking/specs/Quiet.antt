@@ -7,9 +7,9 @@ use Prim.Native.Nat.{ℕ}
 use Rattle.control.specs.Deadlines.{nextDeadline}
 use Rattle.control.specs.declared.control.Control.{Control}
 use Rattle.parts.specs.declared.timers.Interval.the-variants.{Off}
-use Rattle.sessions.specs.Session.{dueBy}
+use Rattle.session.specs.Session.{dueBy}
 use Rattle.sessions.specs.Sessions.{currentOf}
-use Rattle.sessions.specs.declared.session.Session.{Session}
+use Rattle.session.specs.declared.session.Session.{Session}
 use Rattle.sessions.specs.declared.sessions.Found.the-variants.{Got}
 use Rattle.waking.specs.Waking.{inner, wake}
 

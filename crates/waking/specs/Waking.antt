@@ -4,18 +4,18 @@ use mathlib.Core.List.{List}
 use Prim.Native.Nat.{ℕ, _+_}
 use Rattle.base.specs.Choice.{choose}
 use Rattle.control.specs.Control.{Inner, Turn, withHandshake, withSessions, withTimers, outcome, done, expiredControl, queueing}
-use Rattle.control.specs.Deadlines.{scheduledHandshake, cookieDeadline, rejectDeadline, attemptDeadline, handshakeRekeyTimeout, rekeyOnSend, rekeyAfterMessages, rekeyOnReceive, responseDeadline, passiveDeadline, persistentDeadline}
+use Rattle.control.specs.Deadlines.{scheduledHandshake, rejectDeadline, attemptDeadline, handshakeRekeyTimeout, rekeyOnSend, rekeyAfterMessages, rekeyOnReceive, responseDeadline, passiveDeadline, persistentDeadline}
 use Rattle.control.specs.Messages.{initiate}
 use Rattle.control.specs.Transport.{caseDatagram, encryptKeepalive}
 use Rattle.control.specs.declared.answer.Answer.the-variants.{NoAnswer}
 use Rattle.control.specs.declared.control.Control.{Control}
-use Rattle.parts.specs.Handshake.{isInProgress, setExpired, clearCookie}
+use Rattle.parts.specs.Handshake.{isInProgress, setExpired, expireCookie}
 use Rattle.parts.specs.Timers.{clearTimers, scheduleHandshake, cancelScheduledHandshake, consumePassiveKeepalive, tickPersistentKeepalive}
 use Rattle.parts.specs.declared.event.Event.the-variants.{SendHandshakeInitiation, SendKeepalive, ConnectionExpired}
 use Rattle.parts.specs.declared.timers.Timers.{Timers}
-use Rattle.sessions.specs.Session.{caseTime, caseRole, dueBy}
+use Rattle.session.specs.Session.{caseTime, caseRole, dueBy}
 use Rattle.sessions.specs.Sessions.{caseFound, clear, expire, isEmpty}
-use Rattle.sessions.specs.declared.session.Session.{Session}
+use Rattle.session.specs.declared.session.Session.{Session}
 use Rattle.sessions.specs.declared.sessions.Found.{Found}
 
 -- a control and its store
@@ -43,34 +43,26 @@ queueKeepalive c now =
     caseDatagram (encryptKeepalive c now .keepalive) (encryptKeepalive c now .control)
     (λ peer counter. queueing (encryptKeepalive c now .control) (SendKeepalive peer counter))
 
--- the persistent keepalive that is due queued, or the one that is required anyway
-unfoldable pub persistentKeepalive : Control → Bool → ℕ → Control
-persistentKeepalive c required now =
-    choose (dueBy (persistentDeadline c) now)
-    (queueKeepalive (withTimers c (tickPersistentKeepalive (c .timers) now)) now)
-    (choose required (queueKeepalive c now) c)
-
 -- whether a keepalive is due
 unfoldable pub keepaliveDue : Control → ℕ → Bool
 keepaliveDue c now = choose (dueBy (passiveDeadline c) now) true (dueBy (persistentDeadline c) now)
 
+-- the timers with the passive keepalive's deadline dropped if it has come
+unfoldable pub passiveTimers : Control → ℕ → Timers
+passiveTimers c now = choose (dueBy (passiveDeadline c) now) (consumePassiveKeepalive (c .timers)) (c .timers)
+
 -- the timers after the keepalives that are due
 unfoldable pub keepaliveTimers : Control → ℕ → Timers
 keepaliveTimers c now =
-    choose (dueBy (passiveDeadline c) now)
-    (choose (dueBy (persistentDeadline c) now) (tickPersistentKeepalive (consumePassiveKeepalive (c .timers)) now) (consumePassiveKeepalive (c .timers)))
-    (choose (dueBy (persistentDeadline c) now) (tickPersistentKeepalive (c .timers) now) (c .timers))
+    choose (dueBy (persistentDeadline c) now) (tickPersistentKeepalive (passiveTimers c now) now) (passiveTimers c now)
 
--- one keepalive queued for those that are due
+-- one keepalive queued for those that are due; the passive one's deadline is dropped even if there is no session for it
 unfoldable pub sendKeepalive : Control → ℕ → Control
 sendKeepalive c now = queueKeepalive (withTimers c (keepaliveTimers c now)) now
 
--- a keepalive queued if one is due; the passive one's deadline is dropped even if there is no session for it
+-- a keepalive queued if one is due
 unfoldable pub keepalives : Control → ℕ → Control
-keepalives c now =
-    choose (dueBy (passiveDeadline c) now)
-    (persistentKeepalive (withTimers c (consumePassiveKeepalive (c .timers))) true now)
-    (persistentKeepalive c false now)
+keepalives c now = choose (keepaliveDue c now) (sendKeepalive c now) c
 
 -- whether a handshake is required while none is in progress
 unfoldable pub rekeyDue : Control → ℕ → Bool
@@ -91,10 +83,6 @@ wakeInProgress c store required jitter now =
     (choose (dueBy (handshakeRekeyTimeout c) now) (inner (scheduling c jitter now) store)
     (choose required (inner (scheduling c jitter now) store) (inner c store)))
 
--- the cookie dropped if it has expired
-unfoldable pub expireCookie : Control → ℕ → Control
-expireCookie c now = choose (dueBy (cookieDeadline c) now) (withHandshake c (clearCookie (c .handshake))) c
-
 -- the waking's rest once the cookie that is due is dropped
 unfoldable pub wakeLater : Control → List ℕ → Bool → (jitter now : ℕ) → Inner
 wakeLater c store required jitter now =
@@ -105,7 +93,7 @@ wakeLater c store required jitter now =
 
 -- the waking's rest once the sessions that are due are discarded
 unfoldable pub wakeRest : Control → List ℕ → Bool → (jitter now : ℕ) → Inner
-wakeRest c store required jitter now = wakeLater (expireCookie c now) store required jitter now
+wakeRest c store required jitter now = wakeLater (withHandshake c (expireCookie (c .handshake) now)) store required jitter now
 
 -- whether an expired current session is presumed lost: it sent data and no newer session is stored
 unfoldable pub isLost : Control → Session → Bool

@@ -9,19 +9,19 @@ use control::deadlines::rekey_after_messages;
 use control::deadlines::rekey_after_time_on_send;
 use parts::event::Event;
 use parts::timers::Timers;
-use sessions::session::Reserved;
-use sessions::session::Role;
-use sessions::session::Session;
-use sessions::session::Time;
-use sessions::session::due_by;
+use session::session::Reserved;
+use session::session::Role;
+use session::session::Session;
+use session::session::Time;
+use session::session::due_by;
 use sessions::sessions::Found;
 ghost use mathlib.Core.Path.{_≡_};
 ghost use Prim.Native.Nat.{_≤_};
-ghost use Rattle.sessions.specs.Session.{timeLimit};
-ghost use Rattle.sessions.specs.Store.{Leaves};
+ghost use Rattle.session.specs.Session.{timeLimit};
+ghost use Rattle.session.specs.Store.{Leaves};
 ghost use Rattle.parts.specs.RingBuffer.{RingWithin};
 ghost use Rattle.parts.specs.Timers.{maxJitter};
-ghost use Rattle.waking.specs.Waking.{clearAll, expireControl, queueKeepalive, keepaliveDue, keepaliveTimers, sendKeepalive, rekeyDue, wakeRest, isLost, isReplaced, wakeCurrent, wakeSessions, sendScheduled, wake, handleTimeout};
+ghost use Rattle.waking.specs.Waking.{clearAll, expireControl, queueKeepalive, keepaliveDue, passiveTimers, keepaliveTimers, sendKeepalive, rekeyDue, wakeRest, isLost, isReplaced, wakeCurrent, wakeSessions, sendScheduled, wake, handleTimeout};
 ghost use Rattle.control.specs.Facts.{ControlWithin};
 
 // Drops all sessions and resets the timers.
@@ -73,21 +73,25 @@ fn keepalive_due(control: Control, now: u64) -> bool
     due_by(control.timers.next_persistent_keepalive(), now)
 }
 
+// The timers with the passive keepalive's deadline dropped if it has come.
+fn passive_timers(control: Control, now: u64) -> Timers
+    requires { ⌜ ControlWithin control timeLimit ⌝ }
+    ensures { λ r. ⌜ r ≡ passiveTimers control now ⌝ }
+{
+    let timers = control.timers;
+    if due_by(timers.keepalive_after_time_without_send(), now) {
+        return timers.consume_passive_keepalive();
+    }
+    timers
+}
+
 // The timers after the keepalives that are due.
 fn keepalive_timers(control: Control, now: u64) -> Timers
     requires { ⌜ ControlWithin control timeLimit ⌝ }
     ensures { λ r. ⌜ r ≡ keepaliveTimers control now ⌝ }
 {
-    let timers = control.timers;
-    let persistent = due_by(timers.next_persistent_keepalive(), now);
-    if due_by(timers.keepalive_after_time_without_send(), now) {
-        let consumed = timers.consume_passive_keepalive();
-        if persistent {
-            return consumed.tick_persistent_keepalive(now);
-        }
-        return consumed;
-    }
-    if persistent {
+    let timers = passive_timers(control, now);
+    if due_by(control.timers.next_persistent_keepalive(), now) {
         return timers.tick_persistent_keepalive(now);
     }
     timers

@@ -4,20 +4,20 @@
 use mathlib.Core.Path.{_≡_, refl, ap, sym, _∙_}
 use mathlib.Core.Bool.{Bool, true, false}
 use mathlib.Core.List.{List, [], _∷_}
-use Prim.Native.Nat.{ℕ, zero, suc, _+_, _-_, _/_, _%_, _^_, _≤_, _<_, max}
+use Prim.Native.Nat.{ℕ, _+_, _-_, _%_, _≤_, _<_, max}
 use native.Mathlib.Decide.{ℕ-discrete, decLe}
 use native.Mathlib.Omega.{arith}
-use lib.Dec.{eqb, leb, ltb}
-use lib.ListN.{length, getD}
-use borrow.Author.Tests.{eq-eqb, ne-eqb, eqb-true, eqb-false}
+use lib.Dec.{eqb}
+use lib.ListN.{length}
+use borrow.Author.Tests.{eqb-true}
 use Rattle.base.specs.Bits.{bit}
 use Rattle.base.specs.Choice.{choose}
 use Rattle.base.proofs.Bits.{bit-zero}
-use Rattle.base.proofs.Choice.{picks, yes-le, no-le, yes-lt, no-lt, yes-eq, no-eq, yes-flag, no-flag}
+use Rattle.base.proofs.Choice.{picks, yes-le, no-le, yes-eq, no-eq}
 use Rattle.base.proofs.Zeros.{zeros-at}
 use Rattle.window.specs.Window.{limit, wordOf, bitOf, bitAt, checkBit, setBit, clears, empty, advance, isInvalid, willAccept, nextAfter, wordsAfter}
 use Rattle.window.specs.History.{member, expected, judged, committing, seen, past, Represents, fresh, given, grown, verdict, committed}
-use Rattle.window.proofs.Words.{Fitting, length-setBit, setBit-fits, set-hit, set-miss, clears-hit, clears-miss}
+use Rattle.window.proofs.Words.{length-setBit, setBit-fits, set-hit, set-miss, clears-hit, clears-miss}
 use Rattle.window.proofs.Ready.{empty-fits, valid, valid-only, advance-none, advance-near, advance-far, length-advance, advance-fits}
 
 -- membership

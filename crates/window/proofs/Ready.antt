@@ -1,20 +1,20 @@
 -- The words made ready for a counter: what `advance` leaves in each case, how many words, and that they fit; and the same of a commit.
 -- Assumes nothing.
-use mathlib.Core.Path.{_≡_, refl, ap, sym, _∙_}
+use mathlib.Core.Path.{_≡_, refl, sym, _∙_}
 use mathlib.Core.Bool.{Bool, true, false, true≢false}
 use mathlib.Core.List.{List}
-use Prim.Native.Nat.{ℕ, _+_, _-_, _^_, _≤_, _<_, max}
+use Prim.Native.Nat.{ℕ, _+_, _-_, _≤_, _<_}
 use native.Mathlib.Decide.{ℕ-discrete, decLe}
 use native.Mathlib.Omega.{arith}
 use lib.Dec.{eqb, ltb}
 use mir.Syntax.{w64}
 use mir.Val.{Fits}
-use lib.ListN.{length, getD}
+use lib.ListN.{length}
 use borrow.Author.Tests.{eqb-true, le-ltb, ltb-false}
 use Rattle.base.specs.Choice.{choose}
 use Rattle.base.proofs.Choice.{picks, yes-le, no-le}
 use Rattle.base.proofs.Zeros.{zeros-at}
-use Rattle.window.specs.Window.{limit, setBit, clears, empty, advance, isInvalid, willAccept, wordsAfter}
+use Rattle.window.specs.Window.{limit, clears, empty, advance, isInvalid, willAccept, wordsAfter}
 use Rattle.window.proofs.Words.{Fitting, length-setBit, length-clears, clears-fits}
 
 pub empty-fits : Fitting empty
@@ -93,15 +93,6 @@ module _ (words : List ℕ) (next c : ℕ) where
     | yes e ↦ e
     | no d ↦ (let two : 2 ≡ willAccept words next c = search (picks) in absurd (omega arith))
   ]
-
-  -- only a valid counter is committed
-  zero-valid : willAccept words next c ≡ 0 → (b : Bool) → isInvalid next c ≡ b → b ≡ false
-  unfolding willAccept
-  zero-valid z false e = refl
-  zero-valid z true e =
-      let long : length words ≡ 128 = zero-long z in
-      let nine : 9 ≡ willAccept words next c = search (picks) in
-      absurd (omega arith)
 
   -- a commit keeps the number of words
   pub length-wordsAfter : length (wordsAfter words next c) ≡ length words

@@ -2,20 +2,17 @@
 -- Assumes nothing.
 use mathlib.Core.Path.{_≡_, refl, ap, sym, _∙_}
 use mathlib.Core.Bool.{Bool, true, false}
-use mathlib.Core.List.{List, _++_, append-nil}
-use Prim.Native.Nat.{ℕ, zero, suc, _+_, _-_, _*_, _/_, _%_, _^_, _≤_, _<_, max}
+use mathlib.Core.List.{List}
+use Prim.Native.Nat.{ℕ, _+_, _-_, _*_, _/_, _%_, _^_, _≤_, _<_, max}
 use native.Mathlib.Nat.{one-mul, add-zero, sub-self}
-use native.Mathlib.Numerals.{add-one}
 use native.Mathlib.Omega.{arith}
-use lib.ListN.{length, getD, set, drop, replicate, drop-of-length-le}
+use lib.ListN.{length, getD, set}
 use lib.Bits.{bitAnd, bitOr}
-use lib.Dec.{eqb, leb, ltb}
+use lib.Dec.{eqb}
 use lib.Pow.{shl-exact}
 use Rattle.base.specs.Bits.{bit}
-use Rattle.base.specs.Choice.{choose}
 use Rattle.base.proofs.Choice.{picks, yes-le, no-le, yes-eq, no-eq}
 use Rattle.base.proofs.Zeros.{Zeroed, zero-ends}
-use Rattle.window.specs.declared.Marked.{Marked}
 use Rattle.window.specs.Window.{wordOf, bitOf, bitAt, checkBit, setBit, clearBit, clears, empty, advance, isInvalid, willAccept, nextAfter, wordsAfter, markDidReceive, Marks}
 use Rattle.window.proofs.Ready.{advance-none}
 use Rattle.window.proofs.Words.{Fitting, clears-add, length-clears, whole-word}

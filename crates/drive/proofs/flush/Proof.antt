@@ -1,5 +1,5 @@
 use borrow.Author.Needs.{needs}
-use Rattle.script.proofs.Parts.{counts}
+use Rattle.base.proofs.Parts.{counts}
 use Rattle.drive.proofs.flush.Statement.{statement}
 use Rattle.drive.proofs.flush.Tie as tie
 

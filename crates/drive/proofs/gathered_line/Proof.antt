@@ -1,5 +1,5 @@
 use borrow.Author.Needs.{needs}
-use Rattle.script.proofs.Parts.{counts}
+use Rattle.base.proofs.Parts.{counts}
 use Rattle.drive.proofs.gathered_line.Statement.{statement}
 use Rattle.drive.proofs.gathered_line.Tie as tie
 

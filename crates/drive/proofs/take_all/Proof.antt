@@ -1,6 +1,6 @@
 use borrow.Author.Needs.{needs}
 use native.Mathlib.Omega.{arith}
-use Rattle.script.proofs.Parts.{counts}
+use Rattle.base.proofs.Parts.{counts}
 use mathlib.Core.Path.{_≡_}
 use lib.ListN.{length}
 use Rattle.drive.proofs.take_all.Statement.{statement}

@@ -1,4 +1,4 @@
-use Rattle.sessions.proofs.Cases.{cases}
+use Rattle.session.proofs.Cases.{cases}
 use Rattle.base.proofs.Choice.{picks}
 use Rattle.waking.specs.Waking.{isReplaced}
 use borrow.Author.Needs.{needs}

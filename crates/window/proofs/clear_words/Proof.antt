@@ -1,6 +1,6 @@
 use Prim.Native.Nat.{_-_, _%_}
 use mathlib.Core.Path.{_≡_}
-use Rattle.window.proofs.Steps.{Run, run-begins, run-word, run-ends}
+use Rattle.window.proofs.Steps.{Run, run-begins, run-word}
 use borrow.Author.Needs.{needs}
 use Rattle.window.proofs.clear_words.Statement.{statement}
 use Rattle.window.proofs.clear_words.Tie as tie

@@ -1,5 +1,5 @@
 use Rattle.control.specs.Deadlines.{notBefore}
-use Rattle.sessions.proofs.Cases.{cases}
+use Rattle.session.proofs.Cases.{cases}
 use borrow.Author.Needs.{needs}
 use Rattle.control.proofs.deadlines.not_before.Statement.{statement}
 use Rattle.control.proofs.deadlines.not_before.Tie as tie

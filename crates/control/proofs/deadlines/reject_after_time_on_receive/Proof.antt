@@ -1,5 +1,5 @@
 use Rattle.control.proofs.Later.{found-established}
-use Rattle.sessions.proofs.Cases.{cases}
+use Rattle.sessions.proofs.Cases.{lookups}
 use Rattle.control.specs.Deadlines.{foundOnReceive}
 use borrow.Author.Needs.{needs}
 use Rattle.control.proofs.deadlines.reject_after_time_on_receive.Statement.{statement}
@@ -13,14 +13,14 @@ enum-told c = search needs
 
 returns : tie.Need-returns
 unfolding foundOnReceive
-returns c = search (cases, needs)
+returns c = search (lookups, needs)
 
 reject-after-time-on-receive-requires : tie.Need-reject-after-time-on-receive-requires
 reject-after-time-on-receive-requires c κs = search (found-established, needs)
 
 returns-2 : tie.Need-returns-2
 unfolding foundOnReceive
-returns-2 c = search (cases, needs)
+returns-2 c = search (lookups, needs)
 
 pub reject-after-time-on-receive-spec : {M : Type 1} → statement M
 reject-after-time-on-receive-spec =

@@ -1,5 +1,5 @@
 use Rattle.base.proofs.Choice.{picks}
-use Rattle.sessions.proofs.Cases.{cases}
+use Rattle.sessions.proofs.Cases.{lookups}
 use Rattle.control.specs.Deadlines.{foundAfterMessages}
 use borrow.Author.Needs.{needs}
 use Rattle.control.proofs.deadlines.rekey_after_messages.Statement.{statement}
@@ -13,18 +13,18 @@ enum-told c = search needs
 
 returns : tie.Need-returns
 unfolding foundAfterMessages
-returns c = search (cases, picks, needs)
+returns c = search (lookups, picks, needs)
 
 rekey-after-messages-reached-requires : tie.Need-rekey-after-messages-reached-requires
 rekey-after-messages-reached-requires c κs = search needs
 
 returns-2 : tie.Need-returns-2
 unfolding foundAfterMessages
-returns-2 c = search (cases, picks, needs)
+returns-2 c = search (lookups, picks, needs)
 
 returns-3 : tie.Need-returns-3
 unfolding foundAfterMessages
-returns-3 c = search (cases, picks, needs)
+returns-3 c = search (lookups, picks, needs)
 
 pub rekey-after-messages-spec : {M : Type 1} → statement M
 rekey-after-messages-spec =

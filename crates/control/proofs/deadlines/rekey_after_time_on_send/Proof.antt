@@ -1,5 +1,5 @@
 use Rattle.control.proofs.Later.{found-established}
-use Rattle.sessions.proofs.Cases.{cases}
+use Rattle.sessions.proofs.Cases.{lookups}
 use Rattle.control.specs.Deadlines.{foundOnSend}
 use borrow.Author.Needs.{needs}
 use Rattle.control.proofs.deadlines.rekey_after_time_on_send.Statement.{statement}
@@ -13,14 +13,14 @@ enum-told c = search needs
 
 returns : tie.Need-returns
 unfolding foundOnSend
-returns c = search (cases, needs)
+returns c = search (lookups, needs)
 
 rekey-after-time-on-send-requires : tie.Need-rekey-after-time-on-send-requires
 rekey-after-time-on-send-requires c κs = search (found-established, needs)
 
 returns-2 : tie.Need-returns-2
 unfolding foundOnSend
-returns-2 c = search (cases, needs)
+returns-2 c = search (lookups, needs)
 
 pub rekey-after-time-on-send-spec : {M : Type 1} → statement M
 rekey-after-time-on-send-spec =

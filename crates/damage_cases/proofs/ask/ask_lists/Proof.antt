@@ -1,6 +1,5 @@
-use lib.ListN.{length}
 use borrow.Author.Needs.{needs}
-use Rattle.damage_cases.proofs.Parts.{counts}
+use Rattle.base.proofs.Parts.{counts}
 use Rattle.damage_cases.proofs.ask.ask_lists.Statement.{statement}
 use Rattle.damage_cases.proofs.ask.ask_lists.Tie as tie
 

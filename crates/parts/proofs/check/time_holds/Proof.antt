@@ -1,5 +1,5 @@
 use Rattle.parts.specs.Check.{timeHolds}
-use Rattle.sessions.proofs.Cases.{cases}
+use Rattle.session.proofs.Cases.{cases}
 use borrow.Author.Needs.{needs}
 use Rattle.parts.proofs.check.time_holds.Statement.{statement}
 use Rattle.parts.proofs.check.time_holds.Tie as tie

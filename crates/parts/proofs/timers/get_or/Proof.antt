@@ -1,5 +1,5 @@
 use Rattle.parts.specs.Timers.{getOr}
-use Rattle.sessions.proofs.Cases.{cases}
+use Rattle.session.proofs.Cases.{cases}
 use borrow.Author.Needs.{needs}
 use Rattle.parts.proofs.timers.get_or.Statement.{statement}
 use Rattle.parts.proofs.timers.get_or.Tie as tie

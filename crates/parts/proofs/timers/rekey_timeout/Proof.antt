@@ -1,6 +1,6 @@
 use Rattle.parts.proofs.Ways.{fits-5}
 use Rattle.parts.specs.Timers.{rekeyTimeoutOf}
-use Rattle.sessions.proofs.Cases.{cases}
+use Rattle.session.proofs.Cases.{cases}
 use borrow.Author.Needs.{needs}
 use Rattle.parts.proofs.timers.rekey_timeout.Statement.{statement}
 use Rattle.parts.proofs.timers.rekey_timeout.Tie as tie

@@ -1,5 +1,5 @@
 use borrow.Author.Needs.{needs}
-use Rattle.script.proofs.Parts.{counts}
+use Rattle.base.proofs.Parts.{counts}
 use Rattle.script.proofs.answer.put_received.Statement.{statement}
 use Rattle.script.proofs.answer.put_received.Tie as tie
 

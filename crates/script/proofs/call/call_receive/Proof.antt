@@ -1,5 +1,5 @@
 use borrow.Author.Needs.{needs}
-use Rattle.script.proofs.Parts.{counts}
+use Rattle.base.proofs.Parts.{counts}
 use Rattle.script.proofs.call.call_receive.Statement.{statement}
 use Rattle.script.proofs.call.call_receive.Tie as tie
 

@@ -1,4 +1,4 @@
-use Rattle.sessions.proofs.Cases.{cases}
+use Rattle.sessions.proofs.Cases.{lookups}
 use Rattle.base.proofs.Choice.{picks}
 use Rattle.sessions.specs.Sessions.{isIndex}
 use borrow.Author.Needs.{needs}
@@ -13,11 +13,11 @@ enum-known-selected c = search needs
 
 returns : tie.Need-returns
 unfolding isIndex
-returns c = search (picks, cases, needs)
+returns c = search (picks, lookups, needs)
 
 returns-2 : tie.Need-returns-2
 unfolding isIndex
-returns-2 c = search (picks, cases, needs)
+returns-2 c = search (picks, lookups, needs)
 
 pub is-index-spec : {M : Type 1} → statement M
 is-index-spec = tie.close (tie.spec enum-told enum-known-selected returns returns-2)

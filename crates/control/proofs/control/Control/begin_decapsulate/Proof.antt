@@ -1,6 +1,6 @@
 use Rattle.control.proofs.TransportWays.{way-look-refused, way-looked}
 use Rattle.base.proofs.Choice.{picks}
-use Rattle.sessions.proofs.Cases.{cases}
+use Rattle.sessions.proofs.Cases.{lookups}
 use Rattle.control.specs.Transport.{beginDecapsulate}
 use borrow.Author.Needs.{needs}
 use Rattle.control.proofs.control.Control.begin_decapsulate.Statement.{statement}
@@ -14,7 +14,7 @@ refuse-requires c κs = search needs
 
 returns : tie.Need-returns
 unfolding beginDecapsulate
-returns c = search (picks, cases, needs)
+returns c = search (picks, lookups, needs)
 
 in-slot-of-requires : tie.Need-in-slot-of-requires
 in-slot-of-requires c κs = search needs
@@ -30,7 +30,7 @@ refuse-requires-2 c κs = search needs
 
 returns-2 : tie.Need-returns-2
 unfolding beginDecapsulate
-returns-2 c = search (picks, cases, needs)
+returns-2 c = search (picks, lookups, needs)
 
 expired-at-requires : tie.Need-expired-at-requires
 expired-at-requires c κs = search needs
@@ -40,7 +40,7 @@ refuse-requires-3 c κs = search needs
 
 returns-3 : tie.Need-returns-3
 unfolding beginDecapsulate
-returns-3 c = search (picks, cases, needs)
+returns-3 c = search (picks, lookups, needs)
 
 will-receive-requires : tie.Need-will-receive-requires
 will-receive-requires c κs = search needs

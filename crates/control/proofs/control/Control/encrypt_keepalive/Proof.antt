@@ -1,5 +1,6 @@
 use Rattle.control.proofs.TransportWays.{way-kept}
-use Rattle.sessions.proofs.Cases.{cases}
+use Rattle.session.proofs.Cases.{cases}
+use Rattle.sessions.proofs.Cases.{lookups}
 use Rattle.control.specs.Transport.{encryptKeepalive}
 use borrow.Author.Needs.{needs}
 use Rattle.control.proofs.control.Control.encrypt_keepalive.Statement.{statement}
@@ -16,7 +17,7 @@ enum-told c = search needs
 
 returns : tie.Need-returns
 unfolding encryptKeepalive
-returns c = search (cases, needs)
+returns c = search (lookups, needs)
 
 reserve-counters-requires : tie.Need-reserve-counters-requires
 reserve-counters-requires c κs = search needs
@@ -29,7 +30,7 @@ enum-told-2 c = search needs
 
 returns-2 : tie.Need-returns-2
 unfolding encryptKeepalive
-returns-2 c = search (cases, needs)
+returns-2 c = search (lookups, cases, needs)
 
 put-requires : tie.Need-put-requires
 put-requires c κs = search needs

@@ -1,4 +1,4 @@
-use Rattle.sessions.proofs.Cases.{cases}
+use Rattle.sessions.proofs.Cases.{lookups}
 use Rattle.control.specs.Control.{missingReport}
 use borrow.Author.Needs.{needs}
 use Rattle.control.proofs.control.Control.missing.Statement.{statement}
@@ -15,14 +15,14 @@ refuse-requires c κs = search needs
 
 returns : tie.Need-returns
 unfolding missingReport
-returns c = search (cases, needs)
+returns c = search (lookups, needs)
 
 enum-known-missing-2 : tie.Need-enum-known-missing-2
 enum-known-missing-2 c = search needs
 
 returns-2 : tie.Need-returns-2
 unfolding missingReport
-returns-2 c = search (cases, needs)
+returns-2 c = search (lookups, needs)
 
 pub missing-spec : {M : Type 1} → statement M
 missing-spec =

@@ -1,5 +1,5 @@
 use Rattle.base.proofs.Choice.{picks}
-use Rattle.sessions.proofs.Cases.{cases}
+use Rattle.sessions.proofs.Cases.{lookups}
 use Rattle.control.specs.Transport.{send}
 use borrow.Author.Needs.{needs}
 use Rattle.control.proofs.control.Control.send.Statement.{statement}
@@ -13,7 +13,7 @@ refuse-requires c κs = search needs
 
 returns : tie.Need-returns
 unfolding send
-returns c = search (picks, cases, needs)
+returns c = search (picks, lookups, needs)
 
 sending-session-requires : tie.Need-sending-session-requires
 sending-session-requires c κs = search needs
@@ -29,14 +29,14 @@ refuse-requires-2 c κs = search needs
 
 returns-2 : tie.Need-returns-2
 unfolding send
-returns-2 c = search (picks, cases, needs)
+returns-2 c = search (picks, lookups, needs)
 
 grant-requires : tie.Need-grant-requires
 grant-requires c κs = search needs
 
 returns-3 : tie.Need-returns-3
 unfolding send
-returns-3 c = search (picks, cases, needs)
+returns-3 c = search (picks, lookups, needs)
 
 pub send-spec : {M : Type 1} → statement M
 send-spec = tie.close (tie.spec is-expired-requires

@@ -1,6 +1,6 @@
 use Rattle.parts.proofs.Ways.{fits-120}
 use Rattle.parts.specs.Handshake.{cookieExpiration}
-use Rattle.sessions.proofs.Cases.{cases}
+use Rattle.session.proofs.Cases.{cases}
 use borrow.Author.Needs.{needs}
 use Rattle.parts.proofs.handshake.Handshake.cookie_expiration.Statement.{statement}
 use Rattle.parts.proofs.handshake.Handshake.cookie_expiration.Tie as tie

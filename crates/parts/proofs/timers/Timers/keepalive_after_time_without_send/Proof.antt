@@ -1,6 +1,6 @@
 use Rattle.parts.proofs.Ways.{fits-10}
 use Rattle.parts.specs.Timers.{keepaliveAfterTimeWithoutSend}
-use Rattle.sessions.proofs.Cases.{cases}
+use Rattle.session.proofs.Cases.{cases}
 use borrow.Author.Needs.{needs}
 use Rattle.parts.proofs.timers.Timers.keepalive_after_time_without_send.Statement.{
   statement,

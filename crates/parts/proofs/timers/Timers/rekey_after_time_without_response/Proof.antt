@@ -1,6 +1,6 @@
 use Rattle.parts.proofs.Ways.{fits-10, fits-15}
 use Rattle.parts.specs.Timers.{rekeyAfterTimeWithoutResponse}
-use Rattle.sessions.proofs.Cases.{cases}
+use Rattle.session.proofs.Cases.{cases}
 use borrow.Author.Needs.{needs}
 use Rattle.parts.proofs.timers.Timers.rekey_after_time_without_response.Statement.{
   statement,

@@ -1,4 +1,4 @@
-use Rattle.sessions.proofs.Cases.{cases}
+use Rattle.sessions.proofs.Cases.{lookups}
 use Rattle.base.proofs.Choice.{picks}
 use Rattle.sessions.specs.Sessions.{get}
 use borrow.Author.Needs.{needs}
@@ -16,15 +16,15 @@ enum-told c = search needs
 
 returns : tie.Need-returns
 unfolding get
-returns c = search (picks, cases, needs)
+returns c = search (picks, lookups, needs)
 
 returns-2 : tie.Need-returns-2
 unfolding get
-returns-2 c = search (picks, cases, needs)
+returns-2 c = search (picks, lookups, needs)
 
 returns-3 : tie.Need-returns-3
 unfolding get
-returns-3 c = search (picks, cases, needs)
+returns-3 c = search (picks, lookups, needs)
 
 pub get-spec : {M : Type 1} → statement M
 get-spec =

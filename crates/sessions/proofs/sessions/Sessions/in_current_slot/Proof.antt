@@ -1,4 +1,4 @@
-use Rattle.sessions.proofs.Cases.{cases}
+use Rattle.sessions.proofs.Cases.{lookups}
 use Rattle.base.proofs.Choice.{picks}
 use Rattle.sessions.specs.Sessions.{inCurrentSlot}
 use borrow.Author.Needs.{needs}
@@ -16,11 +16,11 @@ enum-told c = search needs
 
 returns : tie.Need-returns
 unfolding inCurrentSlot
-returns c = search (picks, cases, needs)
+returns c = search (picks, lookups, needs)
 
 returns-2 : tie.Need-returns-2
 unfolding inCurrentSlot
-returns-2 c = search (picks, cases, needs)
+returns-2 c = search (picks, lookups, needs)
 
 pub in-current-slot-spec : {M : Type 1} → statement M
 in-current-slot-spec =

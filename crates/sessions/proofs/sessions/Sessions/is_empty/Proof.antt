@@ -1,6 +1,6 @@
 use borrow.Author.Needs.{needs}
 use Prim.Native.Nat.{_-_}
-use Rattle.sessions.specs.Session.{emptySession, newSession}
+use Rattle.session.specs.Session.{emptySession, newSession}
 use Rattle.sessions.proofs.Loops.{NoneYet, long, none-begins, none-found, none-more, some-found}
 use Rattle.sessions.proofs.sessions.Sessions.is_empty.Statement.{statement}
 use Rattle.sessions.proofs.sessions.Sessions.is_empty.Tie as tie

@@ -1,4 +1,4 @@
-use Rattle.sessions.proofs.Cases.{cases}
+use Rattle.sessions.proofs.Cases.{lookups}
 use Rattle.base.proofs.Choice.{picks}
 use Rattle.sessions.specs.Batch.{receivingSession}
 use borrow.Author.Needs.{needs}
@@ -16,22 +16,22 @@ enum-told c = search needs
 
 returns : tie.Need-returns
 unfolding receivingSession
-returns c = search (picks, cases, needs)
+returns c = search (picks, lookups, needs)
 
 returns-2 : tie.Need-returns-2
 unfolding receivingSession
-returns-2 c = search (picks, cases, needs)
+returns-2 c = search (picks, lookups, needs)
 
 expired-at-requires : tie.Need-expired-at-requires
 expired-at-requires c κs = search needs
 
 returns-3 : tie.Need-returns-3
 unfolding receivingSession
-returns-3 c = search (picks, cases, needs)
+returns-3 c = search (picks, lookups, needs)
 
 returns-4 : tie.Need-returns-4
 unfolding receivingSession
-returns-4 c = search (picks, cases, needs)
+returns-4 c = search (picks, lookups, needs)
 
 pub receiving-session-spec : {M : Type 1} → statement M
 receiving-session-spec =

@@ -1,4 +1,4 @@
-use Rattle.sessions.proofs.Cases.{cases}
+use Rattle.sessions.proofs.Cases.{lookups}
 use Rattle.base.proofs.Choice.{picks}
 use Rattle.sessions.specs.Sessions.{setCurrent}
 use borrow.Author.Needs.{needs}
@@ -10,7 +10,7 @@ is-index-requires c κs = search needs
 
 returns : tie.Need-returns
 unfolding setCurrent
-returns c = search (picks, cases, needs)
+returns c = search (picks, lookups, needs)
 
 get-requires : tie.Need-get-requires
 get-requires c κs = search needs
@@ -23,7 +23,7 @@ enum-told c = search needs
 
 returns-2 : tie.Need-returns-2
 unfolding setCurrent
-returns-2 c = search (picks, cases, needs)
+returns-2 c = search (picks, lookups, needs)
 
 current-requires : tie.Need-current-requires
 current-requires c κs = search needs
@@ -39,18 +39,18 @@ select-requires c κs = search needs
 
 returns-3 : tie.Need-returns-3
 unfolding setCurrent
-returns-3 c = search (picks, cases, needs)
+returns-3 c = search (picks, lookups, needs)
 
 returns-4 : tie.Need-returns-4
 unfolding setCurrent
-returns-4 c = search (picks, cases, needs)
+returns-4 c = search (picks, lookups, needs)
 
 select-requires-2 : tie.Need-select-requires-2
 select-requires-2 c κs = search needs
 
 returns-5 : tie.Need-returns-5
 unfolding setCurrent
-returns-5 c = search (picks, cases, needs)
+returns-5 c = search (picks, lookups, needs)
 
 pub set-current-spec : {M : Type 1} → statement M
 set-current-spec =

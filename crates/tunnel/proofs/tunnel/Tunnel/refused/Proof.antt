@@ -1,6 +1,5 @@
 use mathlib.Core.Path.{refl}
 use Rattle.tunnel.specs.Tunnel.{refused}
-use borrow.Author.Needs.{needs}
 use Rattle.tunnel.proofs.tunnel.Tunnel.refused.Statement.{statement}
 use Rattle.tunnel.proofs.tunnel.Tunnel.refused.Tie as tie
 

@@ -1,3 +1,0 @@
-pub mod Digits
-pub mod Parts
-pub mod Putting

@@ -1,0 +1,8 @@
+-- Places in the lists of a batch.
+use Prim.Native.Nat.{ℕ, _≤_}
+
+-- A number of places that three lists have.
+pub record Places (n counters kinds verdicts : ℕ) : Type 0 where
+  pub inCounters : n ≤ counters
+  pub inKinds : n ≤ kinds
+  pub inVerdicts : n ≤ verdicts
