@@ -7,6 +7,7 @@ use mathlib.Core.Logic.{_⊎_, inl, inr, ⊎-elim}
 use Prim.Native.Nat.{ℕ}
 use native.Mathlib.Omega.{arith}
 use Rattle.base.specs.Choice.{choose}
+use Rattle.base.specs.First.{noneOf}
 use Rattle.control.specs.Answer.{numberOf}
 use Rattle.control.specs.Check.{storedHolds, controlHolds}
 use Rattle.control.specs.Control.{newControl, refuse, done, expiredControl, queueing, pollEvent}
@@ -31,7 +32,7 @@ use Rattle.parts.specs.Timers.{caseInterval, newTimers, rejectAfterTimeOf, reke
 use Rattle.parts.specs.declared.event.Event.the-variants.{Empty, SendKeepalive, ConnectionExpired}
 use Rattle.session.specs.Index.{wrappingIncrement}
 use Rattle.session.specs.Session.{caseTime, caseRole, caseReserved, dueBy, least, earlier, newSession, emptySession, rekeyAfterTimeOnSend, rejectAfterTimeOnReceive, expiresAt, expiredAt, shouldUseAt, rekeyAfterMessagesReached, sendingCounterExhausted, preparePacketData, reserveCounters}
-use Rattle.sessions.specs.Sessions.{caseFound, caseSelected, emptySlots, newSessions, inSlotOf, get, put, currentOf, inCurrentSlot, indexAfter, nextIndex, inserting, insert, usable, sendingSession, isIndex, select, setCurrent, clear, emptied, expiredSlot, discard, expireSlot, expireFirst, expire, noneFilled, slotExpiry, firstExpiry}
+use Rattle.sessions.specs.Sessions.{caseFound, caseSelected, emptySlots, newSessions, inSlotOf, get, put, currentOf, inCurrentSlot, indexAfter, nextIndex, inserting, insert, usable, sendingSession, isIndex, select, setCurrent, clear, emptied, expiredSlot, discard, expireSlot, expireFirst, expire, slotExpiry, firstExpiry}
 use Rattle.session.specs.Store.{putSlot, zeros}
 use Rattle.session.specs.declared.session.Time.the-variants.{At}
 use Rattle.session.specs.declared.session.Time.{Time}
@@ -88,7 +89,7 @@ record Computed : Type 0 where
   disorderedWoken : wokenAnswer 0 disorderedFirst (start 5000000000) ≡ No 13
 
 computed : Computed
-unfolding choose wrappingIncrement caseTime caseRole caseReserved dueBy least earlier newSession emptySession rekeyAfterTimeOnSend rejectAfterTimeOnReceive expiresAt expiredAt shouldUseAt rekeyAfterMessagesReached sendingCounterExhausted preparePacketData reserveCounters caseFound caseSelected emptySlots newSessions inSlotOf get put currentOf inCurrentSlot indexAfter nextIndex inserting insert usable sendingSession isIndex select setCurrent clear emptied expiredSlot discard expireSlot expireFirst expire noneFilled slotExpiry firstExpiry putSlot zeros numberOf intervalOf openingOutcome lacking badOutcome badJitter creationNumber timeHolds stateHolds inRange intervalHolds bothAtMost eventHolds slotHolds slotsHold queueHolds eventsHold handshakeHolds packetTimersHold dataTimersHold fieldsHold timersHold storedHolds controlHolds undamaged newControl refuse done expiredControl queueing pollEvent scheduledHandshake earliestExpiry cookieDeadline rejectDeadline attemptDeadline handshakeRekeyTimeout foundOnSend foundAfterMessages foundOnReceive responseDeadline passiveDeadline persistentDeadline currentPersistentDeadline commonDeadline rekeyDeadline keepaliveDeadline unscheduledDeadline nextDeadline notBefore pollTimeout caseEvent caseState caseCompleted newHandshake awaits isInProgress inFlightInitiation setExpired isExpired cookieExpiration appendMac1AndMac2 initiateHandshake expects receiveHandshakeResponse confirming establish complete handleHandshakeResponse initiating initiate restartHandshake startHandshake placeOf emptyPlaces newRing ringIsEmpty storeAt pushBack popFront eventsFrom queued caseInterval newTimers rejectAfterTimeOf rekeyAttemptDeadline rekeyAfterTimeWithoutResponse keepaliveAfterTimeWithoutSend nextPersistentKeepalive clearTimers tickLastHandshakeCompleted tickLastHandshakeStarted tickLastPacketReceived tickLastPacketSent getOr tickLastDataPacketSent tickPersistentKeepalive rekeyTimeoutOf scheduleHandshake cancelScheduledHandshake consumePassiveKeepalive tickCompleted tickInitiation caseDatagram beginEncapsulate finishEncapsulate grant encryptKeepalive confirmFirstSession made gate timelessGate refused settled timed timeless kept timedTurn callNew callStart callSend callResponse callTimeout callEvent callDeadline clearAll expireControl scheduling queueKeepalive keepaliveDue passiveTimers keepaliveTimers sendKeepalive keepalives rekeyDue wakeIdle wakeInProgress expireCookie wakeLater wakeRest isLost isReplaced wakeCurrent wakeSessions sendScheduled wake handleTimeout transport.send step after plainCalls wokenCalls took ran timeOf established used lost example late unheld disordered isEleven isAbove testExpired testEarly testHeld noneEarlier testOrder
+unfolding choose wrappingIncrement caseTime caseRole caseReserved dueBy least earlier newSession emptySession rekeyAfterTimeOnSend rejectAfterTimeOnReceive expiresAt expiredAt shouldUseAt rekeyAfterMessagesReached sendingCounterExhausted preparePacketData reserveCounters caseFound caseSelected emptySlots newSessions inSlotOf get put currentOf inCurrentSlot indexAfter nextIndex inserting insert usable sendingSession isIndex select setCurrent clear emptied expiredSlot discard expireSlot expireFirst expire noneOf slotExpiry firstExpiry putSlot zeros numberOf intervalOf openingOutcome lacking badOutcome badJitter creationNumber timeHolds stateHolds inRange intervalHolds bothAtMost eventHolds slotHolds slotsHold queueHolds eventsHold handshakeHolds packetTimersHold dataTimersHold fieldsHold timersHold storedHolds controlHolds undamaged newControl refuse done expiredControl queueing pollEvent scheduledHandshake earliestExpiry cookieDeadline rejectDeadline attemptDeadline handshakeRekeyTimeout foundOnSend foundAfterMessages foundOnReceive responseDeadline passiveDeadline persistentDeadline currentPersistentDeadline commonDeadline rekeyDeadline keepaliveDeadline unscheduledDeadline nextDeadline notBefore pollTimeout caseEvent caseState caseCompleted newHandshake awaits isInProgress inFlightInitiation setExpired isExpired cookieExpiration appendMac1AndMac2 initiateHandshake expects receiveHandshakeResponse confirming establish complete handleHandshakeResponse initiating initiate restartHandshake startHandshake placeOf emptyPlaces newRing ringIsEmpty storeAt pushBack popFront eventsFrom queued caseInterval newTimers rejectAfterTimeOf rekeyAttemptDeadline rekeyAfterTimeWithoutResponse keepaliveAfterTimeWithoutSend nextPersistentKeepalive clearTimers tickLastHandshakeCompleted tickLastHandshakeStarted tickLastPacketReceived tickLastPacketSent getOr tickLastDataPacketSent tickPersistentKeepalive rekeyTimeoutOf scheduleHandshake cancelScheduledHandshake consumePassiveKeepalive tickCompleted tickInitiation caseDatagram beginEncapsulate finishEncapsulate grant encryptKeepalive confirmFirstSession made gate timelessGate refused settled timed timeless kept timedTurn callNew callStart callSend callResponse callTimeout callEvent callDeadline clearAll expireControl scheduling queueKeepalive keepaliveDue passiveTimers keepaliveTimers sendKeepalive keepalives rekeyDue wakeIdle wakeInProgress expireCookie wakeLater wakeRest isLost isReplaced wakeCurrent wakeSessions sendScheduled wake handleTimeout transport.send step after plainCalls wokenCalls took ran timeOf established used lost example late unheld disordered isEleven isAbove testExpired testEarly testHeld noneEarlier testOrder
 computed =
     record {
       good = refl;

@@ -1,11 +1,12 @@
 -- The ring of sessions, after `Sessions` of src/session.rs: eight slots, each session in the slot of its local index modulo 8.
 use mathlib.Core.Path.{_≡_}
 use mathlib.Core.Bool.{Bool, true, false}
-use mathlib.Core.List.{List, [], _∷_}
+use mathlib.Core.List.{List}
 use Prim.Native.Nat.{ℕ, zero, suc, _+_, _%_, _^_, _≤_, _<_}
 use lib.Dec.{ltb, eqb}
 use lib.ListN.{getD, set, replicate}
 use Rattle.base.specs.Choice.{choose}
+use Rattle.base.specs.First.{noneOf}
 use Rattle.session.specs.Index.{slotIn, wrappingIncrement}
 use Rattle.session.specs.Store.{whole, slotOf, putSlot, zeros, missingOf}
 use Rattle.session.specs.Session.{timeLimit, caseRole, earlier, withId, emptySession, expiresAt, expiredAt, shouldUseAt, sendingCounterExhausted}
@@ -157,14 +158,9 @@ emptied s slot = withSlots s (set (s .slots) slot emptySession)
 unfoldable pub expiredSlot : Sessions → ℕ → ℕ → Bool
 expiredSlot s slot now = choose (slotAt s slot .filled) (expiredAt (slotAt s slot) now) false
 
--- whether none of the first slots' sessions is expired
-unfoldable pub firstUnexpired : Sessions → (count now : ℕ) → Bool
-firstUnexpired s zero now = true
-firstUnexpired s (suc count) now = choose (expiredSlot s count now) false (firstUnexpired s count now)
-
 -- whether no session is expired
 abbrev pub noneExpired : Sessions → ℕ → Bool
-noneExpired s now = firstUnexpired s 8 now
+noneExpired s now = noneOf (λ slot. expiredSlot s slot now) 8
 
 -- an expiry under way, and the store
 pub record Expiring : Type 0 where
@@ -202,14 +198,9 @@ expire s store now =
     (expireFirst (record { expired = record { sessions = s; current = Nothing }; store = store }) 8 now)
     (record { expired = record { sessions = s; current = Nothing }; store = store })
 
--- whether no slot of a list is filled
-unfoldable pub noneFilled : List Session → Bool
-noneFilled [] = true
-noneFilled (session ∷ slots) = choose (session .filled) false (noneFilled slots)
-
 -- whether no session is stored
 abbrev pub isEmpty : Sessions → Bool
-isEmpty s = noneFilled (s .slots)
+isEmpty s = noneOf (λ slot. slotAt s slot .filled) 8
 
 -- every filled slot's time is at most the limit of times
 pub record TimesWithin (s : Sessions) : Type 0 where

@@ -10,6 +10,7 @@ use lib.Dec.{ltb, leb}
 use borrow.Author.Tests.{ltb-true, ltb-false, leb-false, lt-leb}
 use Rattle.base.proofs.Choice.{no-flag}
 use Rattle.base.specs.Choice.{choose}
+use Rattle.base.specs.First.{noneOf}
 use Rattle.control.specs.Control.{withHandshake}
 use Rattle.control.specs.Deadlines.{scheduledHandshake, earliestExpiry, cookieDeadline, rejectDeadline, attemptDeadline, handshakeRekeyTimeout, rekeyOnSend, rekeyAfterMessages, rekeyOnReceive, responseDeadline, passiveDeadline, persistentDeadline, currentPersistentDeadline, commonDeadline, rekeyDeadline, keepaliveDeadline, unscheduledDeadline, nextDeadline}
 use Rattle.control.specs.declared.control.Control.{Control}
@@ -19,7 +20,7 @@ use Rattle.parts.specs.declared.timers.Interval.the-variants.{Off}
 use Rattle.parts.specs.declared.timers.Interval.{Interval}
 use Rattle.sessions.proofs.Loops.{expire-none}
 use Rattle.session.specs.Session.{caseTime, dueBy, least, earlier, expiresAt, expiredAt}
-use Rattle.sessions.specs.Sessions.{caseFound, currentOf, slotAt, expiredSlot, firstUnexpired, expire, slotExpiry, firstExpiry, nextExpiry}
+use Rattle.sessions.specs.Sessions.{caseFound, currentOf, slotAt, expiredSlot, expire, slotExpiry, firstExpiry, nextExpiry}
 use Rattle.session.specs.declared.session.Session.{Session}
 use Rattle.session.specs.declared.session.Time.the-variants.{Never, At}
 use Rattle.session.specs.declared.session.Time.{Time}
@@ -61,8 +62,8 @@ module _ (s : Sessions) (now : ℕ) where
   unfolding slotExpiry expiredSlot
   slot-quiet slot p = not-expired (slotAt s slot .filled) (slotAt s slot) p
 
-  slots-quiet : (count : ℕ) → dueBy (firstExpiry s count) now ≡ false → firstUnexpired s count now ≡ true
-  unfolding firstExpiry firstUnexpired
+  slots-quiet : (count : ℕ) → dueBy (firstExpiry s count) now ≡ false → noneOf (λ slot. expiredSlot s slot now) count ≡ true
+  unfolding firstExpiry noneOf
   slots-quiet zero p = refl
   slots-quiet (suc count) p =
       let n = neither (firstExpiry s count) (slotExpiry s count) now p in

@@ -1,18 +1,19 @@
 use borrow.Author.Needs.{needs}
 use Prim.Native.Nat.{_-_}
 use Rattle.session.specs.Session.{emptySession, newSession}
-use Rattle.sessions.proofs.Loops.{NoneYet, long, none-begins, none-found, none-more, some-found}
+use Rattle.sessions.specs.Sessions.{slotAt}
+use Rattle.base.proofs.First.{NoneYet, none-begins, none-more, one-found, none-found}
 use Rattle.sessions.proofs.sessions.Sessions.is_empty.Statement.{statement}
 use Rattle.sessions.proofs.sessions.Sessions.is_empty.Tie as tie
 
 abbrev Inv-loop : tie.InvT-loop
-Inv-loop self slot₀ slot = NoneYet (self .slots) slot
+Inv-loop self slot₀ slot = NoneYet (λ k. slotAt self k .filled) 8 slot
 
 abbrev μ-loop : tie.MeasureT-loop
 μ-loop self slot₀ slot = 8 - slot
 
 loop-holds : tie.Need-loop-holds Inv-loop μ-loop
-loop-holds c = search (none-begins, long, needs)
+loop-holds c = search (none-begins, needs)
 
 mul-session : tie.Need-mul-session Inv-loop μ-loop
 mul-session c = search needs
@@ -22,7 +23,7 @@ element-copy-out-session c = search needs
 
 returns : tie.Need-returns Inv-loop μ-loop
 unfolding emptySession newSession
-returns c = search (some-found, needs)
+returns c = search (one-found, needs)
 
 add-slot : tie.Need-add-slot Inv-loop μ-loop
 add-slot c = search needs
