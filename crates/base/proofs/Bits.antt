@@ -17,17 +17,17 @@ pub bit-later : (n place : ℕ) → bit n (suc place) ≡ bit (n / 2) place
 unfolding bit
 bit-later n place = ap (λ (x : ℕ). x % 2) (ap (λ (e : ℕ). n / 2 ^ e) (sym (one-add place)) ∙ sym (shr-shr n 1 place))
 
-pub bit-or : (a b place : ℕ) → bit (bitOr a b) place ≡ max (bit a place) (bit b place)
+bit-or : (a b place : ℕ) → bit (bitOr a b) place ≡ max (bit a place) (bit b place)
 unfolding bit
 bit-or a b place =
     rw or-shr (omega (arith, or-step (a / 2 ^ place) (b / 2 ^ place)))
 
-pub bit-and : (a b place : ℕ) → bit (bitAnd a b) place ≡ min (bit a place) (bit b place)
+bit-and : (a b place : ℕ) → bit (bitAnd a b) place ≡ min (bit a place) (bit b place)
 unfolding bit
 bit-and a b place =
     rw and-shr (omega (arith, and-step (a / 2 ^ place) (b / 2 ^ place)))
 
-pub bit-small : (n place : ℕ) → bit n place < 2
+bit-small : (n place : ℕ) → bit n place < 2
 unfolding bit
 bit-small n place = omega arith
 
@@ -35,11 +35,11 @@ pub bit-zero : (place : ℕ) → bit 0 place ≡ 0
 bit-zero zero = bit-first 0
 bit-zero (suc place) = bit-later 0 place ∙ bit-zero place
 
-pub bit-pow-same : (place : ℕ) → bit (2 ^ place) place ≡ 1
+bit-pow-same : (place : ℕ) → bit (2 ^ place) place ≡ 1
 bit-pow-same zero = bit-first 1
 bit-pow-same (suc place) = bit-later (2 ^ suc place) place ∙ rw pow-suc (ap (λ (x : ℕ). bit x place) (omega arith) ∙ bit-pow-same place)
 
-pub bit-pow-other : (b place : ℕ) → (b ≡ place → ⊥) → bit (2 ^ b) place ≡ 0
+bit-pow-other : (b place : ℕ) → (b ≡ place → ⊥) → bit (2 ^ b) place ≡ 0
 bit-pow-other zero zero h = absurd (h refl)
 bit-pow-other zero (suc place) h = bit-later 1 place ∙ bit-zero place
 bit-pow-other (suc b) zero h = bit-first (2 ^ suc b) ∙ rw pow-suc (omega arith)

@@ -1,7 +1,7 @@
 -- Rules for `choose`: a value equals a choice if the test is known and the value equals the side that it picks.
 -- `search picks` follows a function's tests through its definition.
 -- Assumes nothing.
-use mathlib.Core.Path.{_≡_}
+use mathlib.Core.Path.{_≡_, refl}
 use mathlib.Core.Bool.{Bool, true, false}
 use Prim.Native.Nat.{ℕ, _≤_, _<_}
 use lib.Dec.{ltb, leb, eqb}
@@ -43,5 +43,11 @@ module _ {A : Type 0} where
   pub no-call : (f t : Bool) (v x y : A) → f ≡ t → f ≡ false → v ≡ y → v ≡ choose t x y
   unfolding choose
   no-call f t v x y e p q = rw (← e, p) q
+
+  -- both sides the same
+  pub same-choice : (t : Bool) (x : A) → choose t x x ≡ x
+  unfolding choose
+  same-choice true x = refl
+  same-choice false x = refl
 
 pub ruleset picks = (yes-flag, no-flag, yes-lt, no-lt, yes-le, no-le, yes-eq, no-eq, yes-call, no-call)

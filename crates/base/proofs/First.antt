@@ -7,12 +7,8 @@ use native.Mathlib.Nat.{zero-add, suc-add}
 use native.Mathlib.Numerals.{add-one}
 use native.Mathlib.Omega.{arith}
 use Rattle.base.specs.Choice.{choose}
+use Rattle.base.proofs.Choice.{same-choice}
 use Rattle.base.specs.First.{noneOf}
-
-either-false : (t : Bool) → choose t false false ≡ false
-unfolding choose
-either-false true = refl
-either-false false = refl
 
 -- a search that has found none so far
 pub record NoneYet (test : ℕ → Bool) (size i : ℕ) : Type 0 where
@@ -28,7 +24,7 @@ module _ (test : ℕ → Bool) where
   found-stays : (more i : ℕ) → noneOf test i ≡ false → noneOf test (more + i) ≡ false
   unfolding noneOf
   found-stays zero i p = rw zero-add p
-  found-stays (suc more) i p = rw (suc-add, found-stays more i p) (either-false (test (more + i)))
+  found-stays (suc more) i p = rw (suc-add, found-stays more i p) (same-choice (test (more + i)) false)
 
   -- the last of the numbers, and those before it
   pub none-last : (count : ℕ) → noneOf test (suc count) ≡ true → (test count ≡ false) × (noneOf test count ≡ true)

@@ -7,5 +7,5 @@ use lib.ListN.{length, take}
 use lib.Seq.{length-take-le}
 
 -- a part from the start has as many elements as were asked for
-pub counts : (list : List ℕ) (n : ℕ) → n ≤ length list → n ≡ length (take n list)
-counts list n h = sym (length-take-le n list h)
+pub part-length : (list : List ℕ) (n : ℕ) → n ≤ length list → n ≡ length (take n list)
+part-length list n h = sym (length-take-le n list h)

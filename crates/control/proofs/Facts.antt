@@ -28,7 +28,7 @@ use Rattle.parts.specs.declared.ring_buffer.RingBuffer.{RingBuffer}
 use Rattle.parts.specs.declared.timers.Interval.the-variants.{Off, Every}
 use Rattle.parts.specs.declared.timers.Interval.{Interval}
 use Rattle.parts.specs.declared.timers.Timers.{Timers}
-use Rattle.session.specs.Index.{slotIn}
+use Rattle.session.specs.Index.{slotOf}
 use Rattle.session.specs.Session.{rejectAfterMessages, caseTime}
 use Rattle.sessions.specs.Sessions.{slotAt}
 use Rattle.session.specs.declared.session.Session.{Session}
@@ -168,14 +168,14 @@ slot-facts : (s : Session) (slot most : ℕ) → slotHolds s slot most ≡ true 
 unfolding slotHolds
 slot-facts s slot most h f = facts (picked (s .filled) _ h f)
   where
-    facts : (leb (s .«established_at») most and leb (s .«sending_key_counter») rejectAfterMessages and leb (s .next) rejectAfterMessages and eqb (slotIn (s .«receiving_index»)) slot) ≡ true
+    facts : (leb (s .«established_at») most and leb (s .«sending_key_counter») rejectAfterMessages and leb (s .next) rejectAfterMessages and eqb (slotOf (s .«receiving_index»)) slot) ≡ true
         → SlotWithin s slot most
     facts p =
         record {
           established = leb-true (s .«established_at») most (first _ _ p);
           counter = leb-true (s .«sending_key_counter») rejectAfterMessages (first _ _ (second _ _ p));
           next = leb-true (s .next) rejectAfterMessages (first _ _ (second _ _ (second _ _ p)));
-          index = eqb-true (slotIn (s .«receiving_index»)) slot (second _ _ (second _ _ (second _ _ p)));
+          index = eqb-true (slotOf (s .«receiving_index»)) slot (second _ _ (second _ _ (second _ _ p)));
         }
 
 slot-holds : (s : Session) (slot most : ℕ) → (s .filled ≡ true → SlotWithin s slot most) → slotHolds s slot most ≡ true
@@ -184,7 +184,7 @@ slot-holds s slot most w =
     either (s .filled) (λ f.
     joined (le-leb (s .«established_at») most (w f .established))
     (joined (le-leb (s .«sending_key_counter») rejectAfterMessages (w f .counter))
-    (joined (le-leb (s .next) rejectAfterMessages (w f .next)) (eq-eqb (slotIn (s .«receiving_index»)) slot (w f .index)))))
+    (joined (le-leb (s .next) rejectAfterMessages (w f .next)) (eq-eqb (slotOf (s .«receiving_index»)) slot (w f .index)))))
 
 -- the slots
 slots-facts : (s : Sessions) (count most : ℕ) → slotsHold s count most ≡ true → (k : ℕ) → k < count → slotHolds (slotAt s k) k most ≡ true
@@ -236,8 +236,8 @@ module _ (t : Timers) (most : ℕ) where
         dataReceived = leb-true (t .«time_last_data_packet_received») most (first _ _ (first _ _ (second _ _ h)));
         dataSent = leb-true (t .«time_last_data_packet_sent») most (first _ _ (second _ _ (first _ _ (second _ _ h))));
         kept = leb-true (t .«time_persistent_keepalive») most (second _ _ (second _ _ (first _ _ (second _ _ h))));
-        unanswered = time-facts (t .«last_data_received_without_reply») most (first _ _ (second _ _ (second _ _ h)));
-        waiting = time-facts (t .«first_data_sent_without_reply») most (first _ _ (second _ _ (second _ _ (second _ _ h))));
+        receivedWithoutReply = time-facts (t .«last_data_received_without_reply») most (first _ _ (second _ _ (second _ _ h)));
+        sentWithoutReply = time-facts (t .«first_data_sent_without_reply») most (first _ _ (second _ _ (second _ _ (second _ _ h))));
         scheduled =
             time-facts (t .«send_handshake_at») (most + maxJitter) (first _ _ (second _ _ (second _ _ (second _ _ (second _ _ h)))));
         interval = interval-facts (t .«persistent_keepalive») (second _ _ (second _ _ (second _ _ (second _ _ (second _ _ h)))));
@@ -260,8 +260,8 @@ module _ (t : Timers) (most : ℕ) where
     fields-hold : fieldsHold t most ≡ true
     unfolding fieldsHold
     fields-hold =
-        joined (time-holds (t .«last_data_received_without_reply») most (w .unanswered))
-        (joined (time-holds (t .«first_data_sent_without_reply») most (w .waiting))
+        joined (time-holds (t .«last_data_received_without_reply») most (w .receivedWithoutReply))
+        (joined (time-holds (t .«first_data_sent_without_reply») most (w .sentWithoutReply))
         (joined (time-holds (t .«send_handshake_at») (most + maxJitter) (w .scheduled))
         (interval-holds (t .«persistent_keepalive») (w .interval))))
 

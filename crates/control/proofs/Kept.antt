@@ -1,4 +1,4 @@
--- Every step of the timers, the handshake and the ring keeps the facts of number 14: `search timer-steps` and `search handshake-steps` follow them.
+-- Every step of the timers, the handshake and the ring keeps the facts of number 14.
 -- Assumes nothing.
 use mathlib.Core.Path.{_≡_, refl}
 use mathlib.Core.Bool.{Bool, true, false}
@@ -27,7 +27,7 @@ use Rattle.session.specs.declared.session.Time.{Time}
 pub never-within : (most : ℕ) → TimeWithin Never most
 never-within most = record { within = λ at p. let z : _≡_ {A = ℕ} 0 1 = cc in omega arith }
 
-pub at-within : (time most : ℕ) → time ≤ most → TimeWithin (At time) most
+at-within : (time most : ℕ) → time ≤ most → TimeWithin (At time) most
 at-within time most h = record { within = λ at p. let e : time ≡ at = cc in omega arith }
 
 pub get-or-within : (time : Time) (now most : ℕ) → TimeWithin time most → now ≤ most → getOr time now ≤ most
@@ -47,11 +47,11 @@ module _ (t : Timers) (most now : ℕ) (w : TimersWithin t most) (h : now ≤ mo
   unfolding clearTimers
   on-clear = search never-within
 
-  pub on-completed : TimersWithin (tickLastHandshakeCompleted t now) most
+  on-completed : TimersWithin (tickLastHandshakeCompleted t now) most
   unfolding tickLastHandshakeCompleted
   on-completed = search h
 
-  pub on-started : TimersWithin (tickLastHandshakeStarted t now) most
+  on-started : TimersWithin (tickLastHandshakeStarted t now) most
   unfolding tickLastHandshakeStarted
   on-started = search h
 
@@ -104,24 +104,6 @@ module _ (t : Timers) (most now : ℕ) (w : TimersWithin t most) (h : now ≤ mo
   on-initiation true = search on-sent
   on-initiation false = search (on-sent, on-started)
 
-pub ruleset timer-steps = (
-  on-new,
-  on-clear,
-  on-completed,
-  on-started,
-  on-received,
-  on-sent,
-  on-data-received,
-  on-data-sent,
-  on-kept,
-  on-schedule,
-  on-cancel,
-  on-consume,
-  on-response,
-  on-done,
-  on-initiation,
-)
-
 -- no initiation, and an initiation sent within the bound
 none-within : (most : ℕ) → SentWithin None most
 none-within most = record { within = λ local sent p. let z : _≡_ {A = ℕ} 0 1 = cc in omega arith }
@@ -159,8 +141,6 @@ module _ (h : Handshake) (most : ℕ) (w : HandshakeWithin h most) where
 
   pub on-cookie : (index now : ℕ) → now ≤ most → HandshakeWithin (withCookies h (tracking false index (At now))) most
   on-cookie index now l = search at-within
-
-pub ruleset handshake-steps = (on-new-handshake, on-expired, on-clear-cookie, on-append, on-initiate, on-both-none, on-cookie)
 
 -- the events of two lists, and those after the first
 module _ (most : ℕ) where

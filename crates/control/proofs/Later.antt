@@ -1,7 +1,7 @@
 -- Facts below one time hold below every later one, and give what the calls of timers, handshake and sessions ask for.
 -- Assumes nothing.
 use mathlib.Core.Path.{_≡_, refl, ap, sym, _∙_}
-use mathlib.Core.Bool.{Bool, true, false}
+use mathlib.Core.Bool.{Bool}
 use mathlib.Core.List.{List, [], _∷_}
 use Prim.Native.Nat.{ℕ, _+_, _≤_, _<_}
 use native.Mathlib.Omega.{arith}
@@ -18,8 +18,9 @@ use Rattle.parts.specs.declared.handshake.HandshakeState.the-variants.{None, In
 use Rattle.parts.specs.declared.handshake.HandshakeState.{HandshakeState}
 use Rattle.parts.specs.declared.ring_buffer.RingBuffer.{RingBuffer}
 use Rattle.parts.specs.declared.timers.Timers.{Timers}
-use Rattle.session.specs.Index.{slotIn}
+use Rattle.session.specs.Index.{slotOf}
 use Rattle.session.specs.Session.{timeLimit}
+use Rattle.sessions.proofs.Received.{chosen}
 use Rattle.sessions.specs.Sessions.{caseFound, caseSelected, slotAt, TimesWithin, inSlotOf, get, currentOf}
 use Rattle.session.specs.declared.session.Session.{Session}
 use Rattle.session.specs.declared.session.Time.the-variants.{Never, At}
@@ -31,13 +32,13 @@ use Rattle.sessions.specs.declared.sessions.Selected.{Selected}
 use Rattle.sessions.specs.declared.sessions.Sessions.{Sessions}
 
 module _ (a b : ℕ) (l : a ≤ b) where
-  pub time-later : (time : Time) → TimeWithin time a → TimeWithin time b
+  time-later : (time : Time) → TimeWithin time a → TimeWithin time b
   time-later time w = record { within = λ at p. omega (arith, w .within at p) }
 
   sent-later : (state : HandshakeState) → SentWithin state a → SentWithin state b
   sent-later state w = record { within = λ local sent p. omega (arith, w .within local sent p) }
 
-  pub handshake-later : (h : Handshake) → HandshakeWithin h a → HandshakeWithin h b
+  handshake-later : (h : Handshake) → HandshakeWithin h a → HandshakeWithin h b
   handshake-later h w =
       record {
         present = sent-later (h .state) (w .present);
@@ -48,20 +49,20 @@ module _ (a b : ℕ) (l : a ≤ b) where
   slot-later : (s : Session) (slot : ℕ) → SlotWithin s slot a → SlotWithin s slot b
   slot-later s slot w = record { established = omega (arith, w .established); counter = w .counter; next = w .next; index = w .index }
 
-  pub sessions-later : (s : Sessions) → SessionsWithin s a → SessionsWithin s b
+  sessions-later : (s : Sessions) → SessionsWithin s a → SessionsWithin s b
   sessions-later s w = record { slots = λ k h f. slot-later (slotAt s k) k (w .slots k h f) }
 
-  pub event-later : (event : Event) → EventWithin event a → EventWithin event b
+  event-later : (event : Event) → EventWithin event a → EventWithin event b
   event-later event w = record { started = λ x y p. omega (arith, w .started x y p); confirmed = λ x y p. omega (arith, w .confirmed x y p) }
 
-  pub events-later : (events : List Event) → EventsWithin a events → EventsWithin b events
+  events-later : (events : List Event) → EventsWithin a events → EventsWithin b events
   events-later [] none = none
   events-later (event ∷ events) (more w ws) = more (event-later event w) (events-later events ws)
 
   pub queue-later : (r : RingBuffer) → QueueWithin r a → QueueWithin r b
   queue-later r w = record { ring = w .ring; events = events-later _ (w .events) }
 
-pub timers-later : (a b : ℕ) → a ≤ b → (t : Timers) → TimersWithin t a → TimersWithin t b
+timers-later : (a b : ℕ) → a ≤ b → (t : Timers) → TimersWithin t a → TimersWithin t b
 timers-later a b l t w = record {
   completed = omega (arith, w .completed);
   started = omega (arith, w .started);
@@ -70,8 +71,8 @@ timers-later a b l t w = record {
   dataReceived = omega (arith, w .dataReceived);
   dataSent = omega (arith, w .dataSent);
   kept = omega (arith, w .kept);
-  unanswered = time-later a b l (t .«last_data_received_without_reply») (w .unanswered);
-  waiting = time-later a b l (t .«first_data_sent_without_reply») (w .waiting);
+  receivedWithoutReply = time-later a b l (t .«last_data_received_without_reply») (w .receivedWithoutReply);
+  sentWithoutReply = time-later a b l (t .«first_data_sent_without_reply») (w .sentWithoutReply);
   scheduled = time-later (a + maxJitter) (b + maxJitter) (omega arith) (t .«send_handshake_at») (w .scheduled);
   interval = w .interval;
 }
@@ -102,45 +103,37 @@ unfolding inFlightInitiation
 in-flight-within h most time w e = rw e (of-state (h .state) most (w .present))
 
 -- a session that a lookup found
-got-of-choice : (f : Bool) (a x : Session) → choose f (Got a) Nothing ≡ Got x → (f ≡ true) × (a ≡ x)
-unfolding choose
-got-of-choice true a x p = (refl, (cc))
-got-of-choice false a x p = let z : _≡_ {A = ℕ} 0 1 = cc in absurd (omega arith)
-
 got-of-found : (found : Found) (test : Session → Bool) (x : Session) → caseFound found Nothing (λ s. choose (test s) (Got s) Nothing) ≡ Got x → found ≡ Got x
 unfolding caseFound
 got-of-found Nothing test x p = p
-got-of-found (Got a) test x p = ap Got (got-of-choice (test a) a x p .1)
+got-of-found (Got a) test x p = ap Got (chosen (test a) a x p .1)
 
 module _ (s : Sessions) (most : ℕ) (w : SessionsWithin s most) where
-  of-slot : (index : ℕ) (x : Session) → inSlotOf s index ≡ Got x → SlotWithin x (slotIn index) most
+  of-slot : (index : ℕ) (x : Session) → inSlotOf s index ≡ Got x → SlotWithin x (slotOf index) most
   unfolding inSlotOf
   of-slot index x p =
-      let h : slotIn index < 8 = omega arith in
-      rw (← got-of-choice _ (slotAt s (slotIn index)) x p .1) (w .slots (slotIn index) h (got-of-choice _ (slotAt s (slotIn index)) x p .0))
+      let h : slotOf index < 8 = omega arith in
+      rw (← chosen _ (slotAt s (slotOf index)) x p .1) (w .slots (slotOf index) h (chosen _ (slotAt s (slotOf index)) x p .0))
 
-  of-get : (index : ℕ) (x : Session) → get s index ≡ Got x → SlotWithin x (slotIn index) most
+  of-get : (index : ℕ) (x : Session) → get s index ≡ Got x → SlotWithin x (slotOf index) most
   unfolding get
   of-get index x p = of-slot index x (got-of-found (inSlotOf s index) (λ y. eqb (y .«receiving_index») index) x p)
 
-  own-slot : (k : ℕ) (x : Session) → SlotWithin x k most → SlotWithin x (slotIn (x .«receiving_index»)) most
+  own-slot : (k : ℕ) (x : Session) → SlotWithin x k most → SlotWithin x (slotOf (x .«receiving_index»)) most
   own-slot k x v = record { established = v .established; counter = v .counter; next = v .next; index = refl }
 
   of-selected : (selected : Selected) (x : Session) → caseSelected selected Nothing (λ index. get s index) ≡ Got x
-      → SlotWithin x (slotIn (x .«receiving_index»)) most
+      → SlotWithin x (slotOf (x .«receiving_index»)) most
   unfolding caseSelected
   of-selected Unset x p = let z : _≡_ {A = ℕ} 0 1 = cc in absurd (omega arith)
-  of-selected (Index index) x p = own-slot (slotIn index) x (of-get index x p)
+  of-selected (Index index) x p = own-slot (slotOf index) x (of-get index x p)
 
   module _ (found : Found) (x : Session) (is : found ≡ Got x) where
-    -- what is known of the session of an index, of the session in an index's slot, and of the current session
-    pub get-within : (index : ℕ) → found ≡ get s index → SlotWithin x (slotIn index) most
+    -- what is known of the session of an index and of the current session
+    pub get-within : (index : ℕ) → found ≡ get s index → SlotWithin x (slotOf index) most
     get-within index e = of-get index x (sym e ∙ is)
 
-    pub slot-within : (index : ℕ) → found ≡ inSlotOf s index → SlotWithin x (slotIn index) most
-    slot-within index e = of-slot index x (sym e ∙ is)
-
-    pub current-within : found ≡ currentOf s → SlotWithin x (slotIn (x .«receiving_index»)) most
+    pub current-within : found ≡ currentOf s → SlotWithin x (slotOf (x .«receiving_index»)) most
     unfolding currentOf
     current-within e = of-selected (s .current) x (sym e ∙ is)
 

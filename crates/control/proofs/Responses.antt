@@ -1,7 +1,7 @@
 -- A response that opened is answered by the first counter of its session, since no stored session is newer.
 -- Assumes nothing.
 use mathlib.Core.Path.{_≡_, refl, ap, sym, _∙_}
-use mathlib.Core.Bool.{true, false, true≢false}
+use mathlib.Core.Bool.{true, true≢false}
 use mathlib.Core.List.{List}
 use Prim.Native.Nat.{ℕ, _+_, _%_, _≤_}
 use native.Mathlib.Omega.{arith}
@@ -58,14 +58,14 @@ module _ (s : Sessions) (index : ℕ) (x : Session) (found : get s index ≡ Got
   unfolding choose
   not-newer y p = rw (le-ltb (x .«established_at») (y .«established_at») (newest y p))
 
-  picks : caseFound (currentOf s) (select s index) (λ current. choose (ltb (x .«established_at») (current .«established_at»)) s (select s index)) ≡ select s index
-  picks = known-found (λ (z : Sessions). z ≡ select s index) (currentOf s) _ _ refl not-newer
+  selects : caseFound (currentOf s) (select s index) (λ current. choose (ltb (x .«established_at») (current .«established_at»)) s (select s index)) ≡ select s index
+  selects = known-found (λ (z : Sessions). z ≡ select s index) (currentOf s) _ _ refl not-newer
 
-  pub newest-current : currentOf (setCurrent s index) ≡ Got x
+  newest-current : currentOf (setCurrent s index) ≡ Got x
   unfolding setCurrent
   newest-current =
       known-choice (λ (z : Sessions). currentOf z ≡ Got x) (isIndex (s .current) index) _ _ (λ e. already-current s index e ∙ found)
-      (λ e. ap currentOf (found-or (get s index) x s _ found ∙ picks) ∙ current-select s index ∙ found)
+      (λ e. ap currentOf (found-or (get s index) x s _ found ∙ selects) ∙ current-select s index ∙ found)
 
 -- a session just inserted is found by its index
 inserted-found : (s : Sessions) (store : List ℕ) (local peer now : ℕ) → length (s .slots) ≡ 8 → length store ≡ 1024
@@ -118,7 +118,7 @@ pub confirming-sessions : (c : Control) (local now : ℕ) → confirming c local
 unfolding confirming
 confirming-sessions c local now = confirmed-sessions _ _ now
 
-pub established-good : (c : Control) (x : Session) (local now : ℕ) → currentOf (setCurrent (c .sessions) local) ≡ Got x
+established-good : (c : Control) (x : Session) (local now : ℕ) → currentOf (setCurrent (c .sessions) local) ≡ Got x
     → x .«established_at» ≡ now → x .«sending_key_counter» ≡ 0
     → establish c local now ≡ done (encryptKeepalive (confirming c local now) now .control) (Keepalive (x .«sending_index») 0)
 unfolding establish

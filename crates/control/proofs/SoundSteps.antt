@@ -22,7 +22,7 @@ use Rattle.parts.specs.declared.handshake.Handshake.{Handshake}
 use Rattle.parts.specs.declared.timers.Timers.{Timers}
 use Rattle.sessions.proofs.Received.{receiving-got, batch-within}
 use Rattle.sessions.specs.Batch.{started, batchOf, withProgress, receivingSession, Outcome, refused, answered, commit, receive}
-use Rattle.session.specs.Index.{slotIn}
+use Rattle.session.specs.Index.{slotOf}
 use Rattle.session.specs.Session.{rejectAfterMessages, caseRole, caseReserved, newSession, withCounter, withId, reserveCounters, expiredAt, shouldUseAt, sendingCounterExhausted, emptySession}
 use Rattle.sessions.specs.Sessions.{caseFound, Held, emptySlots, put, currentOf, inserting, insert, select, setCurrent, nextIndex, usable, sendingSession, clear, emptied, expire, get}
 use Rattle.sessions.specs.declared.batch.Progress.{Progress}
@@ -98,7 +98,7 @@ of-granted false m n x y p = let z : _≡_ {A = ℕ} 0 1 = cc in absurd (omega a
 
 -- a session that number 14 lets through in its own slot
 abbrev pub OwnSlot : Session → ℕ → Type 0
-OwnSlot x most = SlotWithin x (slotIn (x .«receiving_index»)) most
+OwnSlot x most = SlotWithin x (slotOf (x .«receiving_index»)) most
 
 module _ (most : ℕ) where
   pub counted-within : (x y : Session) (count n : ℕ) → OwnSlot x most → reserveCounters x count ≡ First n y → OwnSlot y most
@@ -215,8 +215,8 @@ module _ (most : ℕ) where
   commit-sound s store index id now counters kinds verdicts w =
       known-found (λ (y : Outcome). SoundReceived (y .received) most) (receivingSession s index id now) _ _ (refused-sound s 12 w)
       (λ x p.
-      let v : SlotWithin x (slotIn index) most = get-within s most (w .within) (get s index) x (receiving-got s index id now x p) index refl in
-      answered-sound s x (slotIn index) _ w v (batch-next store x counters kinds (v .next)))
+      let v : SlotWithin x (slotOf index) most = get-within s most (w .within) (get s index) x (receiving-got s index id now x p) index refl in
+      answered-sound s x (slotOf index) _ w v (batch-next store x counters kinds (v .next)))
 
   pub receive-sound : (s : Sessions) (store : List ℕ) (index id now : ℕ) (counters kinds verdicts : List ℕ) → SoundSessions s most
       → SoundReceived (receive s store index id now counters kinds verdicts .received) most

@@ -93,7 +93,7 @@ module _ (most : ℕ) where
   on-expire s store now w = of-expire (λ (x : Sessions). SessionsWithin x most) on-emptied (λ x v. on-selected x Unset v) s store now w
 
 -- eight empty slots hold no session
-not-empty : (x : Session) → x ≡ emptySession → x .filled ≡ true → ⊥
+pub not-empty : (x : Session) → x ≡ emptySession → x .filled ≡ true → ⊥
 unfolding emptySession
 not-empty x e f = let z : _≡_ {A = ℕ} 0 1 = cc in omega arith
 

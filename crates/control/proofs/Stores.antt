@@ -14,9 +14,9 @@ use Rattle.control.specs.declared.control.Control.{Control}
 use Rattle.sessions.proofs.Received.{length-batch}
 use Rattle.session.proofs.Words.{slot-long, length-zeros, length-put}
 use Rattle.sessions.specs.Batch.{Outcome, started, batchOf, receivingSession, commit, receive}
-use Rattle.session.specs.Index.{slotIn}
+use Rattle.session.specs.Index.{slotOf}
 use Rattle.sessions.specs.Sessions.{Held, insert, clear, Expiring, expireSlot, expireFirst, expire}
-use Rattle.session.specs.Store.{slotOf, putSlot, zeros}
+use Rattle.session.specs.Store.{slotWords, putSlot, zeros}
 use Rattle.session.specs.declared.session.Session.{Session}
 use Rattle.sessions.specs.declared.sessions.Sessions.{Sessions}
 
@@ -49,10 +49,10 @@ unfolding expire
 expire-whole s store now l = of-choice (λ (y : Expiring). Whole (y .store)) _ _ _ (first-whole _ 8 now (omega arith) l) l
 
 module _ (s : Sessions) (store : List ℕ) (index id now : ℕ) (counters kinds verdicts : List ℕ) (l : Whole store) where
-  batch-whole : (x : Session) → Whole (putSlot store (slotIn (x .«receiving_index»)) (batchOf store x counters kinds .words))
+  batch-whole : (x : Session) → Whole (putSlot store (slotOf (x .«receiving_index»)) (batchOf store x counters kinds .words))
   batch-whole x =
       length-put store _ (x .«receiving_index» % 8) l (omega arith)
-      (length-batch (slotOf store (slotIn (x .«receiving_index»))) (started x) counters kinds ∙ slot-long store (x .«receiving_index» % 8) l (omega arith))
+      (length-batch (slotWords store (slotOf (x .«receiving_index»))) (started x) counters kinds ∙ slot-long store (x .«receiving_index» % 8) l (omega arith))
 
   commit-whole : Whole (commit s store index id now counters kinds verdicts .store)
   unfolding commit

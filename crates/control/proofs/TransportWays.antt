@@ -23,7 +23,7 @@ use Rattle.parts.specs.declared.timers.Timers.{Timers}
 use Rattle.session.proofs.Cases.{is-too-few, is-first}
 use Rattle.sessions.proofs.Cases.{is-got}
 use Rattle.sessions.specs.Batch.{Receives, receive}
-use Rattle.session.specs.Index.{slotIn}
+use Rattle.session.specs.Index.{slotOf}
 use Rattle.session.specs.Range.{range}
 use Rattle.session.specs.Session.{rejectAfterMessages, withCounter, reserveCounters, preparePacketData, expiredAt, willReceive}
 use Rattle.sessions.specs.Sessions.{put, sendingSession, setCurrent, inSlotOf}
@@ -36,20 +36,20 @@ use Rattle.sessions.specs.declared.sessions.Found.{Found}
 use Rattle.sessions.specs.declared.sessions.Sessions.{Sessions}
 
 -- a session put in the place of another one of its slot
-put-again : (s : Sessions) (a b : Session) → slotIn (b .«receiving_index») ≡ slotIn (a .«receiving_index») → put (put s a) b ≡ put s b
+put-again : (s : Sessions) (a b : Session) → slotOf (b .«receiving_index») ≡ slotOf (a .«receiving_index») → put (put s a) b ≡ put s b
 unfolding put
 put-again s a b e = rw (e, set-set)
 
 -- a reservation leaves the index
 of-fit : (s : Session) (count first : ℕ) (counted : Session) (fit : Bool)
     → choose fit (First (s .«sending_key_counter») (withCounter s (s .«sending_key_counter» + count))) TooFew ≡ First first counted
-    → slotIn (counted .«receiving_index») ≡ slotIn (s .«receiving_index»)
+    → slotOf (counted .«receiving_index») ≡ slotOf (s .«receiving_index»)
 unfolding choose
 of-fit s count first counted true p = let q : withCounter s (s .«sending_key_counter» + count) ≡ counted = cc in rw (← q) refl
 of-fit s count first counted false p = let z : _≡_ {A = ℕ} 0 1 = cc in absurd (omega arith)
 
 same-index : (s : Session) (count first : ℕ) (counted : Session) → reserveCounters s count ≡ First first counted
-    → slotIn (counted .«receiving_index») ≡ slotIn (s .«receiving_index»)
+    → slotOf (counted .«receiving_index») ≡ slotOf (s .«receiving_index»)
 unfolding reserveCounters
 same-index s count first counted e = of-fit s count first counted (leb (s .«sending_key_counter» + count) rejectAfterMessages) e
 
@@ -72,12 +72,12 @@ module _ (c : Control) where
           (o ∙ rw (put-again (c .sessions) prepared counted (same-index prepared count first counted (sym r ∙ got)), a, t, s)))
 
   -- a keepalive taken
-  pub way-kept : (now counter : ℕ) (found : Found) (session counted : Session) (reserved : Reserved) (after : Sessions) (ticked : Timers)
+  pub way-keepalive : (now counter : ℕ) (found : Found) (session counted : Session) (reserved : Reserved) (after : Sessions) (ticked : Timers)
       → found ≡ sendingSession (c .sessions) now → found ≡ Got session → reserved ≡ reserveCounters session 1 → reserved ≡ First counter counted
       → after ≡ put (c .sessions) counted → ticked ≡ tickLastPacketSent (c .timers) now
       → encrypted (withTimers (withSessions c after) ticked) (Sent (counted .«sending_index») counter) ≡ encryptKeepalive c now
   unfolding encryptKeepalive
-  way-kept now counter found session counted reserved after ticked e h f g a t =
+  way-keepalive now counter found session counted reserved after ticked e h f g a t =
       is-got found (sendingSession (c .sessions) now) session _ _ _ e h
       (is-first reserved (reserveCounters session 1) counter counted _ _ _ f g (rw (a, t)))
 

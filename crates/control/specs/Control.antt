@@ -59,11 +59,6 @@ withEstablished c x = control (c .handshake) (c .sessions) (c .timers) (c .event
 abbrev pub outcome : Control → Answer → (raises updates : Bool) → Out
 outcome c answer raises updates = record { control = c; answer = answer; raises = raises; updates = updates }
 
--- a control and the store of its windows
-pub record Inner : Type 0 where
-  pub control : Control
-  pub store : List ℕ
-
 -- what an operation hands back, and the store that it leaves
 pub record Turn : Type 0 where
   pub out : Out

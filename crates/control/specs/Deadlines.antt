@@ -42,7 +42,7 @@ handshakeRekeyTimeout c = rekeyTimeoutOf (inFlightInitiation (c .handshake))
 unfoldable pub foundOnSend : Found → Time
 foundOnSend found = caseFound found Never rekeyAfterTimeOnSend
 
--- the time of the last packet, if the session that was found reached the number of messages after which to rekey
+-- the time of the last packet sent, if the session that was found has reached the number of messages after which to rekey
 unfoldable pub foundAfterMessages : Found → ℕ → Time
 foundAfterMessages found lastSent = caseFound found Never (λ session. choose (rekeyAfterMessagesReached session) (At lastSent) Never)
 

@@ -11,7 +11,7 @@ use Rattle.parts.specs.declared.event.Event.the-variants.{Established}
 use Rattle.parts.specs.declared.event.Event.{Event}
 use Rattle.parts.specs.declared.ring_buffer.RingBuffer.{RingBuffer}
 use Rattle.session.specs.Session.{rejectAfterMessages}
-use Rattle.session.specs.Index.{slotIn}
+use Rattle.session.specs.Index.{slotOf}
 use Rattle.sessions.specs.Sessions.{slotAt}
 use Rattle.session.specs.declared.session.Session.{Session}
 use Rattle.sessions.specs.declared.sessions.Found.the-variants.{Got}
@@ -23,7 +23,7 @@ pub record SlotWithin (s : Session) (slot most : ℕ) : Type 0 where
   pub established : s .«established_at» ≤ most
   pub counter : s .«sending_key_counter» ≤ rejectAfterMessages
   pub next : s .next ≤ rejectAfterMessages
-  pub index : slotIn (s .«receiving_index») ≡ slot
+  pub index : slotOf (s .«receiving_index») ≡ slot
 
 -- every filled slot
 pub record SessionsWithin (s : Sessions) (most : ℕ) : Type 0 where
@@ -48,7 +48,7 @@ pub record QueueWithin (r : RingBuffer) (most : ℕ) : Type 0 where
   pub ring : RingWithin r
   pub events : EventsWithin most (queued r)
 
--- no time of the control is above this one
+-- what number 14 lets through: no time of the control is above this one, and its counters, indices, ring and interval are in range
 pub record ControlWithin (c : Control) (most : ℕ) : Type 0 where
   pub timers : TimersWithin (c .timers) most
   pub handshake : HandshakeWithin (c .handshake) most

@@ -45,7 +45,7 @@ confirming c local now =
     (getOr (c .«first_initiation_at») now)
     now
 
--- the keepalive that confirms a session to the responder
+-- the session made current and confirmed, and the keepalive that tells the responder
 unfoldable pub establish : Control → (local now : ℕ) → Out
 establish c local now =
     caseDatagram (encryptKeepalive (confirming c local now) now .keepalive)
@@ -76,7 +76,7 @@ handleCookieReply c receiver outcome now =
     (λ number. refuse c number)
     (λ handshake. done (withHandshake c handshake) Done))
 
--- the control after an initiation was sent with a local index already allocated
+-- the control after an initiation was sent with the next local index
 unfoldable pub initiating : Control → ℕ → Control
 initiating c now =
     withFirstInitiationAt
@@ -96,6 +96,6 @@ unfoldable pub restartHandshake : Control → ℕ → Out
 restartHandshake c now =
     choose (expiredControl c) (done c NoAnswer) (done (initiate c now .control) (Initiation (initiate c now .«local_index»)))
 
--- a handshake started, unless one is in progress
+-- a handshake started, unless one is in progress: `initiate_handshake` of src/tunnel.rs
 unfoldable pub startHandshake : Control → ℕ → Out
 startHandshake c now = choose (isInProgress (c .handshake)) (done c NoAnswer) (restartHandshake c now)

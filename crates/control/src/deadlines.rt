@@ -43,7 +43,7 @@ pub fn rekey_after_time_on_send(found: Found) -> Time
     session.rekey_after_time_on_send()
 }
 
-// The time of the last packet, if the session that was found reached `REKEY_AFTER_MESSAGES` sent messages with it.
+// The time of the last packet sent, if the session that was found has reached `REKEY_AFTER_MESSAGES`.
 pub fn rekey_after_messages(found: Found, last_packet_sent: u64) -> Time
     ensures { λ r. ⌜ r ≡ foundAfterMessages found «last_packet_sent» ⌝ }
 {
@@ -96,7 +96,7 @@ impl Control {
     }
 
     // The deadlines that count at all times.
-    pub(crate) fn common_deadline(self) -> Time
+    fn common_deadline(self) -> Time
         requires { ⌜ ControlWithin self timeLimit ⌝ }
         ensures { λ r. ⌜ r ≡ commonDeadline self ⌝ }
     {
@@ -163,7 +163,7 @@ impl Control {
     }
 
     // The earliest deadline.
-    pub(crate) fn next_deadline(self) -> Time
+    fn next_deadline(self) -> Time
         requires { ⌜ ControlWithin self timeLimit ⌝ }
         ensures { λ r. ⌜ r ≡ nextDeadline self ⌝ }
     {

@@ -90,7 +90,7 @@ impl Control {
         self.confirm_first_session(get_or(first, now), now)
     }
 
-    // Takes the keepalive that confirms a session to the responder.
+    // Makes the session current, confirms it, and takes the keepalive that tells the responder.
     fn establish(mut self, local_index: u32, now: u64) -> Out
         requires { ⌜ RingWithin (self .events) ⌝ }
         ensures { λ r. ⌜ r ≡ establish self «local_index» now ⌝ }

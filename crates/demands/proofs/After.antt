@@ -8,12 +8,13 @@ use native.Mathlib.Nat.{add-zero}
 use native.Mathlib.Omega.{arith}
 use lib.ListN.{getD-replicate, length-replicate}
 use Rattle.base.specs.Choice.{choose}
+use Rattle.control.proofs.Steps.{not-empty}
 use Rattle.control.specs.Control.{newControl}
 use Rattle.control.specs.declared.answer.Answer.the-variants.{No, Done}
 use Rattle.demands.proofs.Grown.{sound-step, sound-created}
 use Rattle.demands.proofs.Held.{append-nothing, Held}
 use Rattle.demands.proofs.Known.{Known, known-as}
-use Rattle.demands.proofs.Moves.{empty-filled}
+use Rattle.demands.proofs.Moves.{}
 use Rattle.demands.proofs.Queued.{queue-new}
 use Rattle.demands.proofs.Stepped.{next}
 use Rattle.demands.specs.Calls.{Call, World, step, after, Creation, creating, created, Good}
@@ -29,7 +30,7 @@ use Rattle.tunnel.specs.Tunnel as calls
 use Rattle.tunnel.specs.Tunnel.{Called, answered, callNew, refused}
 
 -- what is known after a list of calls
-abbrev pub KnownAfter : (n : ℕ) (h : ℕ → List ℕ) (g k : List Grant) → World → List Call → Type 0
+abbrev KnownAfter : (n : ℕ) (h : ℕ → List ℕ) (g k : List Grant) → World → List Call → Type 0
 KnownAfter n h g k w calls =
     Known (n + insertions (made w calls)) (λ id. committed id (h id) (made w calls)) (g ++ grants (made w calls)) (k ++ wokenGrants (made w calls))
     (after w calls .tunnel .control) (after w calls .store)
@@ -38,7 +39,7 @@ KnownAfter n h g k w calls =
 assoc-three : (g a v r : List Grant) → g ++ (a ++ (v ++ r)) ≡ (g ++ (a ++ v)) ++ r
 assoc-three g a v r = ap (λ (l : List Grant). g ++ l) (sym (append-assoc a v r)) ∙ sym (append-assoc g (a ++ v) r)
 
-pub known-after : (calls : List Call) (n : ℕ) (h : ℕ → List ℕ) (g k : List Grant) (w : World) → Sound (w .tunnel)
+known-after : (calls : List Call) (n : ℕ) (h : ℕ → List ℕ) (g k : List Grant) (w : World) → Sound (w .tunnel)
     → n + insertions (made w calls) < 2 ^ 64 → Known n h g k (w .tunnel .control) (w .store) → KnownAfter n h g k w calls
 unfolding made insertions committed grants wokenGrants after
 known-after [] n h g k w s few y = known-as n _ h g _ k _ _ _ (add-zero n) (append-nothing g) (append-nothing k) y
@@ -73,8 +74,8 @@ held-new index =
       eight = length-replicate 8 emptySession;
       size = length-zeros 1024;
       count = refl;
-      slots = λ k low f. absurd (empty-filled _ (getD-replicate 8 k emptySession emptySession low) f);
-      apart = λ j k a b e f q. absurd (empty-filled _ (getD-replicate 8 j emptySession emptySession a) e);
+      slots = λ k low f. absurd (not-empty _ (getD-replicate 8 k emptySession emptySession low) f);
+      apart = λ j k a b e f q. absurd (not-empty _ (getD-replicate 8 j emptySession emptySession a) e);
       unborn = λ id l. refl;
       ungranted = λ id l. no-counters id;
       runs = λ id. record { count = 0; are = no-counters id ∙ none-granted; below = omega arith };

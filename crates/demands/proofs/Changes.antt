@@ -18,11 +18,11 @@ use Rattle.sessions.proofs.Received.{length-batch, progress-index, slots-apart}
 use Rattle.session.proofs.Words.{slot-long, length-zeros, length-put}
 use Rattle.sessions.specs.Batch.{Outcome, receivingSession, batchOf, withProgress, receive, commit, committedTo, answered, fits}
 use Rattle.sessions.specs.History.{recordedAll, Call, Live, BatchLaw}
-use Rattle.session.specs.Index.{slotIn}
+use Rattle.session.specs.Index.{slotOf}
 use Rattle.sessions.specs.Laws.{Kept}
 use Rattle.session.specs.Session.{withId}
 use Rattle.sessions.specs.Sessions.{caseFound, slotAt, put, inserting, insert}
-use Rattle.session.specs.Store.{slotOf, putSlot, zeros}
+use Rattle.session.specs.Store.{slotWords, putSlot, zeros}
 use Rattle.session.specs.declared.session.Session.{Session}
 use Rattle.sessions.specs.declared.sessions.Found.the-variants.{Got}
 use Rattle.sessions.specs.declared.sessions.Sessions.{Sessions}
@@ -50,23 +50,23 @@ pub record Alike (x y : Session) : Type 0 where
 module _ (n : ℕ) (h : ℕ → List ℕ) (g : List Grant) (s last : Sessions) (store : List ℕ) (w : Held n h g s store) (x y : Session)
     (found : InSlot s (x .«receiving_index») x) (same : Alike x y) where
   abbrev j : ℕ
-  j = slotIn (x .«receiving_index»)
+  j = slotOf (x .«receiving_index»)
 
   filled-slot : slotAt s j .filled ≡ true
   filled-slot = ap (λ (z : Session). z .filled) (found .stored) ∙ found .filled
 
-  own-slot : SlotHeld n h g j x (slotOf store j)
-  own-slot = of-same n h g j (slotOf store j) (slotAt s j) x (found .stored) (w .slots j (omega arith) filled-slot)
+  own-slot : SlotHeld n h g j x (slotWords store j)
+  own-slot = of-same n h g j (slotWords store j) (slotAt s j) x (found .stored) (w .slots j (omega arith) filled-slot)
 
   module _ (c : Changed s last store store j) (there : slotAt last j ≡ y) (count : last .inserted ≡ s .inserted) (below : y .«sending_key_counter» ≤ limit) where
     -- grants that give this session its counters up to where its send counter stands
-    pub held-counted : (f : List Grant) → ((id : ℕ) → (id ≡ x .id → ⊥) → countersOf id f ≡ countersOf id g)
+    held-counted : (f : List Grant) → ((id : ℕ) → (id ≡ x .id → ⊥) → countersOf id f ≡ countersOf id g)
         → countersOf (x .id) f ≡ upFrom 0 (y .«sending_key_counter») → Held n h f last store
     held-counted f others own =
         let id : slotAt last j .id ≡ x .id = ap (λ (z : Session). z .id) there ∙ same .id in
-        let mine : SlotHeld n h f j y (slotOf store j) =
+        let mine : SlotHeld n h f j y (slotWords store j) =
         record {
-          placed = ap slotIn (same .index);
+          placed = ap slotOf (same .index);
           named = rw (same .id) (own-slot .named);
           stands = rw (same .id, same .next) (own-slot .stands);
           granted = ap (λ (i : ℕ). countersOf i f) (same .id) ∙ own;
@@ -106,7 +106,7 @@ module _ (n : ℕ) (h : ℕ → List ℕ) (g : List Grant) (s last : Sessions) (
 module _ (n : ℕ) (h : ℕ → List ℕ) (g : List Grant) (s : Sessions) (store : List ℕ) (w : Held n h g s store) (x : Session)
     (filled : x .filled ≡ true) (next : x .next ≡ 0) (counter : x .«sending_key_counter» ≡ 0) (few : n + 1 < 2 ^ 64) where
   abbrev slot : ℕ
-  slot = slotIn (x .«receiving_index»)
+  slot = slotOf (x .«receiving_index»)
 
   stored : insert s store x .store ≡ putSlot store slot (zeros 128)
   unfolding insert choose
@@ -116,7 +116,7 @@ module _ (n : ℕ) (h : ℕ → List ℕ) (g : List Grant) (s : Sessions) (store
   unfolding insert choose
   inserted = rw (eq-eqb (length store) 1024 (w .size))
 
-  pub inserted-at : slotAt (insert s store x .sessions) slot ≡ withId x (s .inserted)
+  inserted-at : slotAt (insert s store x .sessions) slot ≡ withId x (s .inserted)
   unfolding inserting
   inserted-at = rw inserted (put-at s (withId x (s .inserted)) store (w .eight))
 
@@ -144,7 +144,7 @@ module _ (n : ℕ) (h : ℕ → List ℕ) (g : List Grant) (s : Sessions) (store
       (omega arith)
       count-more
       (record {
-        placed = ap (λ (z : Session). slotIn (z .«receiving_index»)) inserted-at;
+        placed = ap (λ (z : Session). slotOf (z .«receiving_index»)) inserted-at;
         named = rw id (omega arith);
         stands = rw (id, w .unborn n (omega arith)) (fresh-law s store x (w .eight) (w .size) next .stands);
         granted = ap (λ (i : ℕ). countersOf i g) id ∙ w .ungranted n (omega arith) ∙ none-yet ∙ ap (λ (i : ℕ). upFrom 0 i) (sym (ap (λ (z : Session). z .«sending_key_counter») inserted-at ∙ counter));
@@ -174,13 +174,13 @@ module _ (n : ℕ) (h : ℕ → List ℕ) (g : List Grant) (s : Sessions) (store
   named = received-slot s index id now x found .1
 
   abbrev at : ℕ
-  at = slotIn index
+  at = slotOf index
 
   filled-at : slotAt s at .filled ≡ true
   filled-at = ap (λ (z : Session). z .filled) (in-slot .stored) ∙ in-slot .filled
 
-  own : SlotHeld n h g at x (slotOf store at)
-  own = of-same n h g at (slotOf store at) (slotAt s at) x (in-slot .stored) (w .slots at (omega arith) filled-at)
+  own : SlotHeld n h g at x (slotWords store at)
+  own = of-same n h g at (slotWords store at) (slotAt s at) x (in-slot .stored) (w .slots at (omega arith) filled-at)
 
   live : Live call x (h id)
   live =
@@ -213,12 +213,12 @@ module _ (n : ℕ) (h : ℕ → List ℕ) (g : List Grant) (s : Sessions) (store
   unfolding answered
   sessions-are = ap (λ (o : Outcome). o .received .sessions) goes
 
-  store-is : out .store ≡ putSlot store (slotIn (x .«receiving_index»)) (batchOf store x counters kinds .words)
+  store-is : out .store ≡ putSlot store (slotOf (x .«receiving_index»)) (batchOf store x counters kinds .words)
   store-is = ap (λ (o : Outcome). o .store) goes
 
   left-at : slotAt (out .received .sessions) at ≡ left
   left-at =
-      ap (λ (t : Sessions). slotAt t at) sessions-are ∙ ap (λ (i : ℕ). slotAt (put s left) (slotIn i)) (sym left-index) ∙ put-at s left store (w .eight)
+      ap (λ (t : Sessions). slotAt t at) sessions-are ∙ ap (λ (i : ℕ). slotAt (put s left) (slotOf i)) (sym left-index) ∙ put-at s left store (w .eight)
 
   inserted-same : out .received .sessions .inserted ≡ s .inserted
   unfolding put
@@ -230,8 +230,8 @@ module _ (n : ℕ) (h : ℕ → List ℕ) (g : List Grant) (s : Sessions) (store
   size-left : length (out .store) ≡ length store
   size-left =
       ap length store-is
-      ∙ length-put store _ (slotIn (x .«receiving_index»)) (w .size) (omega arith)
-      (length-batch _ _ counters kinds ∙ slot-long store (slotIn (x .«receiving_index»)) (w .size) (omega arith))
+      ∙ length-put store _ (slotOf (x .«receiving_index»)) (w .size) (omega arith)
+      (length-batch _ _ counters kinds ∙ slot-long store (slotOf (x .«receiving_index»)) (w .size) (omega arith))
       ∙ sym (w .size)
 
   module _ (i : ℕ → List ℕ) (mine : i id ≡ recordedAll (h id) counters (out .verdicts)) (others : (y : ℕ) → (y ≡ id → ⊥) → i y ≡ h y) where
@@ -247,7 +247,7 @@ module _ (n : ℕ) (h : ℕ → List ℕ) (g : List Grant) (s : Sessions) (store
         (omega arith)
         (inserted-same ∙ w .count)
         (record {
-          placed = ap (λ (z : Session). slotIn (z .«receiving_index»)) left-at ∙ ap slotIn left-index;
+          placed = ap (λ (z : Session). slotOf (z .«receiving_index»)) left-at ∙ ap slotOf left-index;
           named = rw (is, ← named) (own .named);
           stands = rw (is, mine) (batch-judged .stands);
           granted = ap (λ (k : ℕ). countersOf k g) (is ∙ sym named) ∙ own .granted

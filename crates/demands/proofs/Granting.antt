@@ -25,7 +25,7 @@ use Rattle.demands.proofs.Moves.{InSlot, current-slot, put-at, changed-
 use Rattle.demands.specs.Made.{caseAnswer}
 use Rattle.demands.specs.Sending.{Grant, granting}
 use Rattle.parts.specs.Timers.{tickLastPacketSent}
-use Rattle.session.specs.Index.{slotIn}
+use Rattle.session.specs.Index.{slotOf}
 use Rattle.session.specs.Range.{range}
 use Rattle.session.specs.Session.{withCounter, reserveCounters, preparePacketData}
 use Rattle.sessions.specs.Sessions.{slotAt, put, currentOf, sendingSession}
@@ -64,7 +64,7 @@ pub record Grants (c : Control) (store : List ℕ) (d : Control) (peer first len
 module _ (c d : Control) (store : List ℕ) (x : Session) (len : ℕ) (current : currentOf (c .sessions) ≡ Got x)
     (below : x .«sending_key_counter» + len ≤ limit) (ring : d .events ≡ c .events) where
   abbrev at : ℕ
-  at = slotIn (x .«receiving_index»)
+  at = slotOf (x .«receiving_index»)
 
   in-slot : InSlot (c .sessions) (x .«receiving_index») x
   in-slot = current-slot (c .sessions) x current
@@ -87,7 +87,7 @@ module _ (c d : Control) (store : List ℕ) (x : Session) (len : ℕ) (current :
   abbrev then : Session
   then = withCounter x (x .«sending_key_counter» + len)
 
-  pub grants-once : d .sessions ≡ put (c .sessions) then → Grants c store d (x .«sending_index») (x .«sending_key_counter») len x
+  grants-once : d .sessions ≡ put (c .sessions) then → Grants c store d (x .«sending_index») (x .«sending_key_counter») len x
   unfolding put
   grants-once e =
       grants-at then (record { id = refl; index = refl; next = refl }) refl
@@ -96,7 +96,7 @@ module _ (c d : Control) (store : List ℕ) (x : Session) (len : ℕ) (current :
   abbrev prepared : Session
   prepared = preparePacketData x
 
-  pub grants-prepared : d .sessions ≡ put (put (c .sessions) prepared) (withCounter prepared (x .«sending_key_counter» + len))
+  grants-prepared : d .sessions ≡ put (put (c .sessions) prepared) (withCounter prepared (x .«sending_key_counter» + len))
       → Grants c store d (x .«sending_index») (x .«sending_key_counter») len x
   unfolding put preparePacketData
   grants-prepared e =
@@ -159,7 +159,7 @@ module _ (c : Control) (store : List ℕ) (x : Session) (count now : ℕ) (curre
       rw (r .counted, r .first-is)
       (some x (x .«sending_index») (x .«sending_key_counter») count (grants-prepared c _ store x count current (r .below) refl refl) refl)
 
-  pub sends-grant : Sends c store (grant c x count now)
+  sends-grant : Sends c store (grant c x count now)
   unfolding grant finishEncapsulate
   sends-grant =
       known-reserved (λ (o : Out). Sends c store o) (reserveCounters (preparePacketData x) count) _ _ (none marked)

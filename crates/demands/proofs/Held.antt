@@ -12,9 +12,9 @@ use lib.ListN.{length}
 use borrow.Author.Tests.{eq-eqb, ne-eqb}
 use Rattle.base.specs.Choice.{choose}
 use Rattle.demands.specs.Sending.{Grant, granting, upFrom, countersOf}
-use Rattle.session.specs.Index.{slotIn}
+use Rattle.session.specs.Index.{slotOf}
 use Rattle.sessions.specs.Sessions.{slotAt}
-use Rattle.session.specs.Store.{slotOf}
+use Rattle.session.specs.Store.{slotWords}
 use Rattle.session.specs.declared.session.Session.{Session}
 use Rattle.sessions.specs.declared.sessions.Sessions.{Sessions}
 use Rattle.window.specs.History.{Represents}
@@ -66,7 +66,7 @@ pub record Runs (counters : List ℕ) : Type 0 where
 
 -- a filled slot's record and words, with the histories and the grants of all sessions
 pub record SlotHeld (n : ℕ) (h : ℕ → List ℕ) (g : List Grant) (slot : ℕ) (x : Session) (words : List ℕ) : Type 0 where
-  pub placed : slotIn (x .«receiving_index») ≡ slot
+  pub placed : slotOf (x .«receiving_index») ≡ slot
   pub named : x .id < n
   pub stands : Represents (h (x .id)) words (x .next)
   pub granted : countersOf (x .id) g ≡ upFrom 0 (x .«sending_key_counter»)
@@ -76,7 +76,7 @@ pub record Held (n : ℕ) (h : ℕ → List ℕ) (g : List Grant) (s : Sessions)
   pub eight : length (s .slots) ≡ 8
   pub size : length store ≡ 1024
   pub count : s .inserted ≡ n
-  pub slots : (k : ℕ) → k < 8 → slotAt s k .filled ≡ true → SlotHeld n h g k (slotAt s k) (slotOf store k)
+  pub slots : (k : ℕ) → k < 8 → slotAt s k .filled ≡ true → SlotHeld n h g k (slotAt s k) (slotWords store k)
   pub apart : (j k : ℕ) → j < 8 → k < 8 → slotAt s j .filled ≡ true → slotAt s k .filled ≡ true → slotAt s j .id ≡ slotAt s k .id → j ≡ k
   pub unborn : (id : ℕ) → n ≤ id → h id ≡ []
   pub ungranted : (id : ℕ) → n ≤ id → countersOf id g ≡ []
@@ -87,7 +87,7 @@ pub record Carried (s last : Sessions) (store left : List ℕ) : Type 0 where
   pub eight : length (last .slots) ≡ length (s .slots)
   pub size : length left ≡ length store
   pub count : last .inserted ≡ s .inserted
-  pub slots : (k : ℕ) → k < 8 → slotAt last k .filled ≡ true → (slotAt last k ≡ slotAt s k) × (slotOf left k ≡ slotOf store k)
+  pub slots : (k : ℕ) → k < 8 → slotAt last k .filled ≡ true → (slotAt last k ≡ slotAt s k) × (slotWords left k ≡ slotWords store k)
 
 pub carried-same : (s : Sessions) (store : List ℕ) → Carried s s store store
 carried-same s store = record { eight = refl; size = refl; count = refl; slots = λ k low f. (refl, refl) }
@@ -99,14 +99,14 @@ carried-on s t u store mid left a b =
       size = b .size ∙ a .size;
       count = b .count ∙ a .count;
       slots = λ k low f.
-          let p : (slotAt u k ≡ slotAt t k) × (slotOf left k ≡ slotOf mid k) = b .slots k low f in
-          let q : (slotAt t k ≡ slotAt s k) × (slotOf mid k ≡ slotOf store k) =
+          let p : (slotAt u k ≡ slotAt t k) × (slotWords left k ≡ slotWords mid k) = b .slots k low f in
+          let q : (slotAt t k ≡ slotAt s k) × (slotWords mid k ≡ slotWords store k) =
           a .slots k low (ap (λ (x : Session). x .filled) (sym (p .0)) ∙ f) in
           (p .0 ∙ q .0, p .1 ∙ q .1);
     }
 
 module _ (n : ℕ) (h : ℕ → List ℕ) (g : List Grant) (s last : Sessions) (store left : List ℕ) (w : Held n h g s store) where
-  was-filled : (k : ℕ) → (slotAt last k ≡ slotAt s k) × (slotOf left k ≡ slotOf store k) → slotAt last k .filled ≡ true → slotAt s k .filled ≡ true
+  was-filled : (k : ℕ) → (slotAt last k ≡ slotAt s k) × (slotWords left k ≡ slotWords store k) → slotAt last k .filled ≡ true → slotAt s k .filled ≡ true
   was-filled k p f = ap (λ (x : Session). x .filled) (sym (p .0)) ∙ f
 
   pub held-carried : Carried s last store left → Held n h g last left
@@ -116,11 +116,11 @@ module _ (n : ℕ) (h : ℕ → List ℕ) (g : List Grant) (s last : Sessions) (
         size = c .size ∙ w .size;
         count = c .count ∙ w .count;
         slots = λ k low f.
-            let p : (slotAt last k ≡ slotAt s k) × (slotOf left k ≡ slotOf store k) = c .slots k low f in
+            let p : (slotAt last k ≡ slotAt s k) × (slotWords left k ≡ slotWords store k) = c .slots k low f in
             rw (p .0, p .1) (w .slots k low (was-filled k p f));
         apart = λ j k a b e f q.
-            let p : (slotAt last j ≡ slotAt s j) × (slotOf left j ≡ slotOf store j) = c .slots j a e in
-            let r : (slotAt last k ≡ slotAt s k) × (slotOf left k ≡ slotOf store k) = c .slots k b f in
+            let p : (slotAt last j ≡ slotAt s j) × (slotWords left j ≡ slotWords store j) = c .slots j a e in
+            let r : (slotAt last k ≡ slotAt s k) × (slotWords left k ≡ slotWords store k) = c .slots k b f in
             w .apart j k a b (was-filled j p e) (was-filled k r f)
             (ap (λ (x : Session). x .id) (sym (p .0)) ∙ q ∙ ap (λ (x : Session). x .id) (r .0));
         unborn = w .unborn;
@@ -132,7 +132,7 @@ module _ (n : ℕ) (h : ℕ → List ℕ) (g : List Grant) (s last : Sessions) (
 pub record Changed (s last : Sessions) (store left : List ℕ) (slot : ℕ) : Type 0 where
   pub eight : length (last .slots) ≡ length (s .slots)
   pub size : length left ≡ length store
-  pub others : (k : ℕ) → k < 8 → (k ≡ slot → ⊥) → (slotAt last k ≡ slotAt s k) × (slotOf left k ≡ slotOf store k)
+  pub others : (k : ℕ) → k < 8 → (k ≡ slot → ⊥) → (slotAt last k ≡ slotAt s k) × (slotWords left k ≡ slotWords store k)
 
 -- one slot changed: what is to be known of it and of its session
 module _ (n m : ℕ) (h i : ℕ → List ℕ) (g f : List Grant) (s last : Sessions) (store left : List ℕ) (j : ℕ) (w : Held n h g s store)
@@ -140,15 +140,15 @@ module _ (n m : ℕ) (h i : ℕ → List ℕ) (g f : List Grant) (s last : Sessi
   abbrev id : ℕ
   id = slotAt last j .id
 
-  module _ (more : n ≤ m) (count : last .inserted ≡ m) (mine : SlotHeld m i f j (slotAt last j) (slotOf left j))
+  module _ (more : n ≤ m) (count : last .inserted ≡ m) (mine : SlotHeld m i f j (slotAt last j) (slotWords left j))
       (distinct : (k : ℕ) → k < 8 → (k ≡ j → ⊥) → slotAt s k .filled ≡ true → slotAt s k .id ≡ id → ⊥)
       (histories : (x : ℕ) → (x ≡ id → ⊥) → i x ≡ h x) (grants : (x : ℕ) → (x ≡ id → ⊥) → countersOf x f ≡ countersOf x g)
       (run : Runs (countersOf id f)) where
-    other-slot : (k : ℕ) → k < 8 → (k ≡ j → ⊥) → slotAt last k .filled ≡ true → SlotHeld m i f k (slotAt last k) (slotOf left k)
+    other-slot : (k : ℕ) → k < 8 → (k ≡ j → ⊥) → slotAt last k .filled ≡ true → SlotHeld m i f k (slotAt last k) (slotWords left k)
     other-slot k low d e =
-        let p : (slotAt last k ≡ slotAt s k) × (slotOf left k ≡ slotOf store k) = c .others k low d in
+        let p : (slotAt last k ≡ slotAt s k) × (slotWords left k ≡ slotWords store k) = c .others k low d in
         let e' : slotAt s k .filled ≡ true = ap (λ (x : Session). x .filled) (sym (p .0)) ∙ e in
-        let y : SlotHeld n h g k (slotAt s k) (slotOf store k) = w .slots k low e' in
+        let y : SlotHeld n h g k (slotAt s k) (slotWords store k) = w .slots k low e' in
         let z : slotAt s k .id ≡ id → ⊥ = distinct k low d e' in
         rw (p .0, p .1)
         (record {
@@ -158,7 +158,7 @@ module _ (n m : ℕ) (h i : ℕ → List ℕ) (g f : List Grant) (s last : Sessi
           granted = grants (slotAt s k .id) z ∙ y .granted;
         })
 
-    each-slot : (k : ℕ) → k < 8 → slotAt last k .filled ≡ true → SlotHeld m i f k (slotAt last k) (slotOf left k)
+    each-slot : (k : ℕ) → k < 8 → slotAt last k .filled ≡ true → SlotHeld m i f k (slotAt last k) (slotWords left k)
     each-slot k low e = elim (ℕ-discrete k j) [
       | yes q ↦ rw q mine
       | no q ↦ other-slot k low q e
@@ -167,14 +167,14 @@ module _ (n m : ℕ) (h i : ℕ → List ℕ) (g f : List Grant) (s last : Sessi
     -- another filled slot has another id
     differs : (k : ℕ) → k < 8 → (k ≡ j → ⊥) → slotAt last k .filled ≡ true → slotAt last k .id ≡ id → ⊥
     differs k low d e q =
-        let p : (slotAt last k ≡ slotAt s k) × (slotOf left k ≡ slotOf store k) = c .others k low d in
+        let p : (slotAt last k ≡ slotAt s k) × (slotWords left k ≡ slotWords store k) = c .others k low d in
         distinct k low d (ap (λ (x : Session). x .filled) (sym (p .0)) ∙ e) (ap (λ (x : Session). x .id) (sym (p .0)) ∙ q)
 
     both-others : (a b : ℕ) → a < 8 → b < 8 → (a ≡ j → ⊥) → (b ≡ j → ⊥) → slotAt last a .filled ≡ true → slotAt last b .filled ≡ true
         → slotAt last a .id ≡ slotAt last b .id → a ≡ b
     both-others a b la lb da db ea eb q =
-        let p : (slotAt last a ≡ slotAt s a) × (slotOf left a ≡ slotOf store a) = c .others a la da in
-        let r : (slotAt last b ≡ slotAt s b) × (slotOf left b ≡ slotOf store b) = c .others b lb db in
+        let p : (slotAt last a ≡ slotAt s a) × (slotWords left a ≡ slotWords store a) = c .others a la da in
+        let r : (slotAt last b ≡ slotAt s b) × (slotWords left b ≡ slotWords store b) = c .others b lb db in
         w .apart a b la lb (ap (λ (x : Session). x .filled) (sym (p .0)) ∙ ea) (ap (λ (x : Session). x .filled) (sym (r .0)) ∙ eb)
         (ap (λ (x : Session). x .id) (sym (p .0)) ∙ q ∙ ap (λ (x : Session). x .id) (r .0))
 

@@ -29,6 +29,7 @@ use Rattle.parts.specs.declared.handshake.Completed.the-variants.{Failed, Opene
 use Rattle.parts.specs.declared.handshake.Completed.{Completed}
 use Rattle.parts.specs.declared.handshake.Handshake.{Handshake}
 use Rattle.session.specs.Session.{newSession, withId}
+use Rattle.sessions.proofs.Received.{got-same}
 use Rattle.sessions.specs.Sessions.{currentOf, insert, nextIndex}
 use Rattle.session.specs.declared.session.Role.the-variants.{Initiator, Responder}
 use Rattle.session.specs.declared.session.Session.{Session}
@@ -106,10 +107,7 @@ module _ (c : Control) (store : List ℕ) (peer outcome now : ℕ) where
   unfolding handleHandshakeInitiation
   inserts-initiation = of-choice (λ (t : Turn). Inserts c store t) _ _ _ (nothing (idle-refused c store 11)) (responded _)
 
--- what a lookup and a keepalive hold
-got-same : (x y : Session) → Got x ≡ Got y → x ≡ y
-got-same x y e = cc
-
+-- what a keepalive holds
 sent-peer : (a b x y : ℕ) → Sent a b ≡ Sent x y → a ≡ x
 sent-peer a b x y e = cc
 

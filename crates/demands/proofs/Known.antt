@@ -77,12 +77,12 @@ pub known-carried : (n : ℕ) (h : ℕ → List ℕ) (g k : List Grant) (c d : C
 known-carried n h g k c d store left a e w = record { held = held-carried n h g _ _ store left (w .held) a; queue = rw e (w .queue) }
 
 -- an event queued that is no keepalive
-pub known-queued : (n : ℕ) (h : ℕ → List ℕ) (g k : List Grant) (c : Control) (event : Event) (store : List ℕ) → EventGranted k event
+known-queued : (n : ℕ) (h : ℕ → List ℕ) (g k : List Grant) (c : Control) (event : Event) (store : List ℕ) → EventGranted k event
     → Known n h g k c store → Known n h g k (queueing c event) store
 unfolding queueing
 known-queued n h g k c event store e w = record { held = w .held; queue = queue-push k (c .events) (w .queue) event e }
 
-pub established-none : (k : List Grant) (a b : ℕ) → EventGranted k (Established a b)
+established-none : (k : List Grant) (a b : ℕ) → EventGranted k (Established a b)
 established-none k a b p q e = let z : _≡_ {A = ℕ} 0 1 = cc in absurd (omega arith)
 
 -- the first session confirmed

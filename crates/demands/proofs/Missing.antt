@@ -20,7 +20,7 @@ use Rattle.demands.specs.Sending.{Grant}
 use Rattle.sessions.proofs.Judged.{missing-law}
 use Rattle.sessions.specs.Sessions as sessions
 use Rattle.sessions.specs.Sessions.{caseFound, caseMissing, slotAt, inSlotOf, get}
-use Rattle.session.specs.Store.{slotOf}
+use Rattle.session.specs.Store.{slotWords}
 use Rattle.session.specs.declared.session.Session.{Session}
 use Rattle.sessions.specs.declared.sessions.Found.the-variants.{Got}
 use Rattle.sessions.specs.declared.sessions.Missing.the-variants.{Count}
@@ -38,7 +38,7 @@ module _ (w : World) (n : ℕ) (h : ℕ → List ℕ) (g k : List Grant) (y : Kn
   abbrev x : Session
   x = slotAt s slot
 
-  its : SlotHeld n h g slot x (slotOf (w .store) slot)
+  its : SlotHeld n h g slot x (slotWords (w .store) slot)
   its = y .held .slots slot low filled
 
   found : get s (x .«receiving_index») ≡ Got x
@@ -49,7 +49,7 @@ module _ (w : World) (n : ℕ) (h : ℕ → List ℕ) (g k : List Grant) (y : Kn
   unfolding sessions.missing caseFound choose
   counted =
       rw (eq-eqb (length (w .store)) 1024 (y .held .size), found, its .placed)
-      (ap Count (missing-law (h (x .id)) (slotOf (w .store) slot) (x .next) (its .stands) .counts))
+      (ap Count (missing-law (h (x .id)) (slotWords (w .store) slot) (x .next) (its .stands) .counts))
 
   passes : timelessGate (w .tunnel) (lacking (w .store)) ≡ 0
   unfolding timelessGate lacking choose

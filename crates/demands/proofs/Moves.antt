@@ -11,14 +11,14 @@ use lib.ListN.{length, getD, set, length-set, getD-replicate, length-replicate}
 use lib.Seq.{getD-set-same, getD-set-other}
 use borrow.Author.Tests.{eqb-true}
 use Rattle.base.specs.Choice.{choose}
-use Rattle.control.proofs.Steps.{of-choice, of-found}
+use Rattle.control.proofs.Steps.{not-empty, of-choice, of-found}
 use Rattle.demands.proofs.Held.{Carried, carried-same, carried-on, Changed}
 use Rattle.session.proofs.Words.{length-zeros, length-put}
 use Rattle.sessions.proofs.Apart.{kept-other}
 use Rattle.sessions.specs.Batch.{receivingSession}
-use Rattle.session.specs.Index.{slotIn}
+use Rattle.session.specs.Index.{slotOf}
 use Rattle.sessions.specs.Laws.{Kept}
-use Rattle.session.specs.Session.{emptySession, newSession, expiredAt}
+use Rattle.session.specs.Session.{emptySession, expiredAt}
 use Rattle.sessions.specs.Sessions.{caseFound, caseSelected, slotAt, emptySlots, Held, inSlotOf, get, put, currentOf, nextIndex, select, setCurrent, clear, emptied, Expiring, discard, expireSlot, expireFirst, expire, insert}
 use Rattle.session.specs.Store.{putSlot, zeros}
 use Rattle.session.specs.declared.session.Session.{Session}
@@ -30,7 +30,7 @@ use Rattle.sessions.specs.declared.sessions.Selected.{Selected}
 use Rattle.sessions.specs.declared.sessions.Sessions.{Sessions}
 
 -- the same slots, whatever the current session and the index allocated last
-pub carried-slots : (s last : Sessions) (store : List ℕ) → last .slots ≡ s .slots → last .inserted ≡ s .inserted → Carried s last store store
+carried-slots : (s last : Sessions) (store : List ℕ) → last .slots ≡ s .slots → last .inserted ≡ s .inserted → Carried s last store store
 carried-slots s last store e i =
     record {
       eight = ap length e;
@@ -67,7 +67,7 @@ module _ (s : Sessions) where
 
   -- a filled slot with this index
   pub record InSlot (index : ℕ) (x : Session) : Type 0 where
-    pub stored : slotAt s (slotIn index) ≡ x
+    pub stored : slotAt s (slotOf index) ≡ x
     pub filled : x .filled ≡ true
     pub named : x .«receiving_index» ≡ index
 
@@ -76,7 +76,7 @@ module _ (s : Sessions) where
   unfolding inSlotOf caseFound
   got-in index Nothing x p q = let z : _≡_ {A = ℕ} 0 1 = cc in absurd (omega arith)
   got-in index (Got y) x p q =
-      let a : (slotAt s (slotIn index) .filled ≡ true) × (slotAt s (slotIn index) ≡ y) = chosen _ _ _ p in
+      let a : (slotAt s (slotOf index) .filled ≡ true) × (slotAt s (slotOf index) ≡ y) = chosen _ _ _ p in
       let b : (eqb (y .«receiving_index») index ≡ true) × (y ≡ x) = chosen _ _ _ q in
       record {
         stored = a .1 ∙ b .1;
@@ -125,7 +125,7 @@ pub record Thinned (s last : Sessions) (store left : List ℕ) : Type 0 where
   pub carried : Carried s last store left
   pub current : (x : Session) → currentOf last ≡ Got x → currentOf s ≡ Got x
 
-pub thinned-same : (s : Sessions) (store : List ℕ) → Thinned s s store store
+thinned-same : (s : Sessions) (store : List ℕ) → Thinned s s store store
 thinned-same s store = record { carried = carried-same s store; current = λ x e. e }
 
 thinned-on : (s t u : Sessions) (store mid left : List ℕ) → Thinned s t store mid → Thinned t u mid left → Thinned s u store left
@@ -134,13 +134,13 @@ thinned-on s t u store mid left a b =
 
 -- a current session that is still there was current before
 module _ (s last : Sessions) (store left : List ℕ) (c : Carried s last store left) where
-  same-found : (i : ℕ) (f : Bool) (x : Session) → slotAt last (slotIn i) .filled ≡ f
-      → caseFound (choose f (Got (slotAt last (slotIn i))) Nothing) Nothing (λ (y : Session). choose (eqb (y .«receiving_index») i) (Got y) Nothing) ≡ Got x
+  same-found : (i : ℕ) (f : Bool) (x : Session) → slotAt last (slotOf i) .filled ≡ f
+      → caseFound (choose f (Got (slotAt last (slotOf i))) Nothing) Nothing (λ (y : Session). choose (eqb (y .«receiving_index») i) (Got y) Nothing) ≡ Got x
       → get s i ≡ Got x
   unfolding get inSlotOf choose caseFound
   same-found i true x p e =
-      let q : slotAt last (slotIn i) ≡ slotAt s (slotIn i) = c .slots (slotIn i) (omega arith) p .0 in
-      let f : slotAt s (slotIn i) .filled ≡ true = ap (λ (y : Session). y .filled) (sym q) ∙ p in
+      let q : slotAt last (slotOf i) ≡ slotAt s (slotOf i) = c .slots (slotOf i) (omega arith) p .0 in
+      let f : slotAt s (slotOf i) .filled ≡ true = ap (λ (y : Session). y .filled) (sym q) ∙ p in
       rw f (rw q at e)
   same-found i false x p e = let z : _≡_ {A = ℕ} 0 1 = cc in absurd (omega arith)
 
@@ -158,11 +158,6 @@ module _ (s last : Sessions) (store left : List ℕ) (c : Carried s last store l
   unfolding currentOf caseSelected
   no-current q = record { carried = c; current = λ x e. let z : _≡_ {A = ℕ} 0 1 = cc in absurd (omega arith) }
 
--- an empty slot is not filled
-pub empty-filled : (x : Session) → x ≡ emptySession → x .filled ≡ true → ⊥
-unfolding emptySession newSession
-empty-filled x e f = let z : _≡_ {A = ℕ} 0 1 = cc in omega arith
-
 -- a slot emptied and its words zeroed
 module _ (s last : Sessions) (store : List ℕ) (k : ℕ) (eight : length (s .slots) ≡ 8) (size : length store ≡ 1024) (low : k < 8) where
   carried-emptied : last .slots ≡ set (s .slots) k emptySession → last .inserted ≡ s .inserted → Carried s last store (putSlot store k (zeros 128))
@@ -172,7 +167,7 @@ module _ (s last : Sessions) (store : List ℕ) (k : ℕ) (eight : length (s .sl
         size = length-put store (zeros 128) k size low (length-zeros 128) ∙ sym size;
         count = i;
         slots = λ j high f. elim (ℕ-discrete j k) [
-          | yes q ↦ absurd (empty-filled _ (ap (λ (n : ℕ). slotAt last n) q ∙ ap (λ (l : List Session). getD l k emptySession) e ∙ getD-set-same (s .slots) k emptySession emptySession (omega arith)) f)
+          | yes q ↦ absurd (not-empty _ (ap (λ (n : ℕ). slotAt last n) q ∙ ap (λ (l : List Session). getD l k emptySession) e ∙ getD-set-same (s .slots) k emptySession emptySession (omega arith)) f)
           | no q ↦ (let y : Kept s last store (putSlot store k (zeros 128)) j = kept-other s store size j k low q last emptySession (zeros 128) (length-zeros 128) e in (y .session, y .words))
         ];
       }
@@ -228,22 +223,22 @@ module _ (s : Sessions) (store : List ℕ) (now : ℕ) where
         eight = length-replicate 8 emptySession ∙ sym eight;
         size = length-zeros 1024 ∙ sym size;
         count = refl;
-        slots = λ k low f. absurd (empty-filled _ (getD-replicate 8 k emptySession emptySession low) f);
+        slots = λ k low f. absurd (not-empty _ (getD-replicate 8 k emptySession emptySession low) f);
       })
       refl)
       (thinned-same s store)
 
 -- a session put into its slot
 module _ (s : Sessions) (x : Session) (store : List ℕ) (eight : length (s .slots) ≡ 8) where
-  pub put-at : slotAt (put s x) (slotIn (x .«receiving_index»)) ≡ x
+  pub put-at : slotAt (put s x) (slotOf (x .«receiving_index»)) ≡ x
   unfolding put
-  put-at = getD-set-same (s .slots) (slotIn (x .«receiving_index»)) x emptySession (omega arith)
+  put-at = getD-set-same (s .slots) (slotOf (x .«receiving_index»)) x emptySession (omega arith)
 
-  pub changed-put : Changed s (put s x) store store (slotIn (x .«receiving_index»))
+  pub changed-put : Changed s (put s x) store store (slotOf (x .«receiving_index»))
   unfolding put
   changed-put =
       record {
-        eight = length-set (s .slots) (slotIn (x .«receiving_index»)) x;
+        eight = length-set (s .slots) (slotOf (x .«receiving_index»)) x;
         size = refl;
-        others = λ k low d. (getD-set-other (s .slots) (slotIn (x .«receiving_index»)) k x emptySession d, refl);
+        others = λ k low d. (getD-set-other (s .slots) (slotOf (x .«receiving_index»)) k x emptySession d, refl);
       }

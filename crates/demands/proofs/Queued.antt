@@ -33,7 +33,7 @@ pub record Queue (grants : List Grant) (r : RingBuffer) : Type 0 where
   pub all : AllGranted grants (queued r)
 
 -- what was granted stays so
-pub among-later : (peer counter : ℕ) (g h : List Grant) → Among peer counter g → Among peer counter (g ++ h)
+among-later : (peer counter : ℕ) (g h : List Grant) → Among peer counter g → Among peer counter (g ++ h)
 among-later peer counter (x ∷ g) h here = here
 among-later peer counter (x ∷ g) h (there a) = there (among-later peer counter g h a)
 

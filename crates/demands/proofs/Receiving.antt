@@ -1,7 +1,7 @@
 -- Demand 2, receiving: a batch for a live session is judged by what the calls so far committed there.
 -- Assumes nothing.
 use mathlib.Core.Path.{_≡_, refl, ap, sym, _∙_}
-use mathlib.Core.Bool.{Bool, true, false, true≢false}
+use mathlib.Core.Bool.{true, false}
 use mathlib.Core.List.{List}
 use Prim.Native.Nat.{ℕ, _+_, _-_, _<_}
 use native.Mathlib.Omega.{arith}
@@ -22,17 +22,18 @@ use Rattle.demands.specs.Sending.{Grant}
 use Rattle.sessions.proofs.Batches.{fits-ready}
 use Rattle.sessions.specs.Batch.{Outcome, fits, receivingSession, receive}
 use Rattle.sessions.specs.History.{recordedAll, verdictsOn, Call, BatchLaw}
-use Rattle.session.specs.Index.{slotIn}
+use Rattle.session.specs.Index.{slotOf}
 use Rattle.session.specs.Session.{expiredAt}
 use Rattle.sessions.specs.Sessions.{caseFound, slotAt, inSlotOf, get}
 use Rattle.sessions.specs.declared.sessions.Found.the-variants.{Got}
 use Rattle.sessions.specs.declared.sessions.Sessions.{Sessions}
 use Rattle.tunnel.proofs.Framed.{gate-good}
+use Rattle.tunnel.proofs.SoundCalls.{full-store}
 use Rattle.tunnel.specs.Arguments.{lacking, badBatch}
 use Rattle.tunnel.specs.Tunnel.{settled, timed, kept, timedBatch, callReceive}
 
 -- the session that a live batch finds
-module _ (s : Sessions) (index id now slot : ℕ) (placed : slotIn index ≡ slot) (filled : slotAt s slot .filled ≡ true)
+module _ (s : Sessions) (index id now slot : ℕ) (placed : slotOf index ≡ slot) (filled : slotAt s slot .filled ≡ true)
     (named : slotAt s slot .«receiving_index» ≡ index) (is : slotAt s slot .id ≡ id) (age : now - slotAt s slot .«established_at» < 180000000000) where
   found : get s index ≡ Got (slotAt s slot)
   unfolding get inSlotOf caseFound choose
@@ -42,20 +43,14 @@ module _ (s : Sessions) (index id now slot : ℕ) (placed : slotIn index ≡ slo
   unfolding expiredAt
   young = lt-leb (slotAt s slot .«established_at» + 180000000000) now (omega arith)
 
-  pub live-found : receivingSession s index id now ≡ Got (slotAt s slot)
+  live-found : receivingSession s index id now ≡ Got (slotAt s slot)
   unfolding receivingSession caseFound choose
   live-found = rw (found, eq-eqb _ _ is, young)
 
 -- lists that number 2 lets through make a batch
-of-good : (a b : Bool) → choose a true (choose b false true) ≡ false → b ≡ true
-unfolding choose
-of-good true b e = absurd (true≢false e)
-of-good false true e = refl
-of-good false false e = absurd (true≢false e)
-
 good-fits : (store counters kinds verdicts : List ℕ) → badBatch store counters kinds verdicts ≡ false → fits counters kinds verdicts ≡ true
 unfolding badBatch
-good-fits store counters kinds verdicts e = of-good (lacking store) (fits counters kinds verdicts) e
+good-fits store counters kinds verdicts e = full-store (lacking store) (fits counters kinds verdicts) e
 
 module _ (w : World) (n : ℕ) (h : ℕ → List ℕ) (g k : List Grant) (y : Known n h g k (w .tunnel .control) (w .store)) (b : Batch) (slot : ℕ) (live : Live w b slot) where
   abbrev s : Sessions
@@ -67,7 +62,7 @@ module _ (w : World) (n : ℕ) (h : ℕ → List ℕ) (g k : List Grant) (y : Kn
   its : receivingSession s (b .index) (b .id) (b .now) ≡ Got (slotAt s slot)
   its =
       live-found s (b .index) (b .id) (b .now) slot
-      (ap slotIn (sym (live .index)) ∙ y .held .slots slot (live .among) (live .filled) .placed) (live .filled) (live .index) (live .id) (live .age)
+      (ap slotOf (sym (live .index)) ∙ y .held .slots slot (live .among) (live .filled) .placed) (live .filled) (live .index) (live .id) (live .age)
 
   abbrev out : Outcome
   out = receive s (w .store) (b .index) (b .id) (b .now) (b .counters) (b .kinds) (b .verdicts)

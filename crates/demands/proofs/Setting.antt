@@ -8,7 +8,7 @@ use Rattle.control.proofs.Opened.{known-completed, known-cookie}
 use Rattle.control.proofs.SoundOperations.{of-missing}
 use Rattle.control.proofs.SoundSending.{of-datagram}
 use Rattle.control.proofs.Steps.{of-choice, of-found, of-reserved}
-use Rattle.control.specs.Control.{Inner, Turn, refuse, done, queueing, pollEvent, missingReport, withTimers}
+use Rattle.control.specs.Control.{Turn, refuse, done, queueing, pollEvent, missingReport, withTimers}
 use Rattle.control.specs.Messages.{responding, respond, handleHandshakeInitiation, confirming, establish, complete, handleHandshakeResponse, handleCookieReply, initiating, initiate, restartHandshake, startHandshake}
 use Rattle.control.specs.Transport as transport
 use Rattle.control.specs.Transport.{beginEncapsulate, finishEncapsulate, grant, encryptKeepalive, confirmFirstSession, selecting, accept, batched, committed, commitDecapsulate, beginDecapsulate}
@@ -26,7 +26,7 @@ use Rattle.tunnel.specs.Tunnel.{refused, settled, timed, timeless, timedTurn, t
 use Rattle.tunnel.specs.declared.tunnel.Answered.{Answered}
 use Rattle.tunnel.specs.declared.tunnel.Tunnel.{Tunnel}
 use Rattle.waking.proofs.Wakings.{WakingKeeps, of-wake}
-use Rattle.waking.specs.Waking.{clearAll, expireControl, scheduling, queueKeepalive, passiveTimers, keepaliveTimers, sendKeepalive, keepalives, sendScheduled, handleTimeout}
+use Rattle.waking.specs.Waking.{Inner, clearAll, expireControl, scheduling, queueKeepalive, passiveTimers, keepaliveTimers, sendKeepalive, keepaliveIfDue, sendScheduled, handleTimeout}
 
 module _ (interval : Interval) where
   -- timers, a control and what holds one have this setting
@@ -137,8 +137,8 @@ module _ (interval : Interval) where
   unfolding passiveTimers consumePassiveKeepalive
   on-passive c now h = of-choice (λ (t : Timers). Set (withTimers c t)) _ _ _ h h
 
-  on-keepalives : (c : Control) (now : ℕ) → Set c → Set (keepalives c now)
-  unfolding keepalives sendKeepalive keepaliveTimers tickPersistentKeepalive
+  on-keepalives : (c : Control) (now : ℕ) → Set c → Set (keepaliveIfDue c now)
+  unfolding keepaliveIfDue sendKeepalive keepaliveTimers tickPersistentKeepalive
   on-keepalives c now h =
       of-choice Set _ _ _
       (on-queue-keepalive _ now (of-choice (λ (t : Timers). Set (withTimers c t)) _ _ _ (on-passive c now h) (on-passive c now h)))

@@ -7,7 +7,7 @@ use Prim.Native.Nat.{ℕ}
 use native.Mathlib.Omega.{arith}
 use lib.ListN.{length}
 use Rattle.control.proofs.Steps.{of-choice, of-found}
-use Rattle.control.specs.Control.{Inner, withSessions, queueing}
+use Rattle.control.specs.Control.{withSessions, queueing}
 use Rattle.control.specs.Messages.{initiate, initiating}
 use Rattle.control.specs.Transport.{caseDatagram, encryptKeepalive}
 use Rattle.control.specs.declared.control.Control.{Control}
@@ -32,7 +32,7 @@ use Rattle.session.specs.declared.session.Time.{Time}
 use Rattle.sessions.specs.declared.sessions.Found.the-variants.{Got}
 use Rattle.sessions.specs.declared.sessions.Found.{Found}
 use Rattle.sessions.specs.declared.sessions.Sessions.{Sessions}
-use Rattle.waking.specs.Waking.{inner, clearAll, expireControl, scheduling, queueKeepalive, sendKeepalive, keepalives, wakeIdle, wakeInProgress, wakeLater, wakeRest, wakeCurrent, wakeSessions, sendScheduled, wake}
+use Rattle.waking.specs.Waking.{Inner, inner, clearAll, expireControl, scheduling, queueKeepalive, sendKeepalive, keepaliveIfDue, wakeIdle, wakeInProgress, wakeLater, wakeRest, wakeCurrent, wakeSessions, sendScheduled, wake}
 
 -- an event that is no grant
 pub record Ungranted (event : Event) : Type 0 where
@@ -101,8 +101,8 @@ module _ (c : Control) (store : List ℕ) where
     queued-keepalive = of-keepalive (encryptKeepalive d now) (encrypts d left now)
 
   module _ (left : List ℕ) (now : ℕ) where
-    kept-alive : (d : Control) → From (d .sessions) (d .events) left → Waked (keepalives d now) left
-    unfolding keepalives sendKeepalive
+    kept-alive : (d : Control) → From (d .sessions) (d .events) left → Waked (keepaliveIfDue d now) left
+    unfolding keepaliveIfDue sendKeepalive
     kept-alive d f = of-choice (λ (y : Control). Waked y left) _ _ _ (queued-keepalive _ left now f) (silent (f .held) (f .ring))
 
     module _ (jitter : ℕ) (required : Bool) where

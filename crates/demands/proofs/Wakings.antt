@@ -10,7 +10,7 @@ use lib.Dec.{ltb, leb, eqb}
 use borrow.Author.Tests.{le-ltb, lt-leb, eqb-true}
 use Rattle.base.specs.Choice.{choose}
 use Rattle.control.proofs.Steps.{of-found, of-reserved}
-use Rattle.control.specs.Control.{Inner, Turn, newControl, refuse, done, expiredControl}
+use Rattle.control.specs.Control.{Turn, newControl, refuse, done, expiredControl}
 use Rattle.control.specs.Deadlines.{nextDeadline, notBefore, pollTimeout}
 use Rattle.control.specs.Transport as transport
 use Rattle.control.specs.Transport.{grant, finishEncapsulate}
@@ -43,7 +43,7 @@ use Rattle.tunnel.specs.Tunnel.{made, gate, refused, settled, timed, kept, time
 use Rattle.tunnel.specs.declared.tunnel.Tunnel.{Tunnel}
 use Rattle.waking.proofs.Quiet.{quiet-law}
 use Rattle.waking.specs.Quiet.{Early}
-use Rattle.waking.specs.Waking.{handleTimeout}
+use Rattle.waking.specs.Waking.{Inner, handleTimeout}
 
 -- a tunnel that would give 11 is expired: no other way of sending gives it
 abbrev NotEleven : Out → Type 0

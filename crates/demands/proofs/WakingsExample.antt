@@ -39,7 +39,7 @@ use Rattle.session.specs.declared.session.Time.{Time}
 use Rattle.tunnel.specs.Arguments.{intervalOf, openingOutcome, lacking, badOutcome, badJitter, creationNumber}
 use Rattle.tunnel.specs.Check.{undamaged}
 use Rattle.tunnel.specs.Tunnel.{made, gate, timelessGate, refused, settled, timed, timeless, kept, timedTurn, callNew, callStart, callSend, callResponse, callTimeout, callEvent, callDeadline}
-use Rattle.waking.specs.Waking.{clearAll, expireControl, scheduling, queueKeepalive, keepaliveDue, passiveTimers, keepaliveTimers, sendKeepalive, keepalives, rekeyDue, wakeIdle, wakeInProgress, wakeLater, wakeRest, isLost, isReplaced, wakeCurrent, wakeSessions, sendScheduled, wake, handleTimeout}
+use Rattle.waking.specs.Waking.{clearAll, expireControl, scheduling, queueKeepalive, keepaliveDue, passiveTimers, keepaliveTimers, sendKeepalive, keepaliveIfDue, rekeyDue, wakeIdle, wakeInProgress, wakeLater, wakeRest, isLost, isReplaced, wakeCurrent, wakeSessions, sendScheduled, wake, handleTimeout}
 
 -- what the two tunnels, with a keepalive of so many seconds, answer to a call after some steps
 abbrev plainAnswer : ℕ → List Step → Call → Answer
@@ -89,7 +89,7 @@ record Computed : Type 0 where
   disorderedWoken : wokenAnswer 0 disorderedFirst (start 5000000000) ≡ No 13
 
 computed : Computed
-unfolding choose wrappingIncrement caseTime caseRole caseReserved dueBy least earlier newSession emptySession rekeyAfterTimeOnSend rejectAfterTimeOnReceive expiresAt expiredAt shouldUseAt rekeyAfterMessagesReached sendingCounterExhausted preparePacketData reserveCounters caseFound caseSelected emptySlots newSessions inSlotOf get put currentOf inCurrentSlot indexAfter nextIndex inserting insert usable sendingSession isIndex select setCurrent clear emptied expiredSlot discard expireSlot expireFirst expire noneOf slotExpiry firstExpiry putSlot zeros numberOf intervalOf openingOutcome lacking badOutcome badJitter creationNumber timeHolds stateHolds inRange intervalHolds bothAtMost eventHolds slotHolds slotsHold queueHolds eventsHold handshakeHolds packetTimersHold dataTimersHold fieldsHold timersHold storedHolds controlHolds undamaged newControl refuse done expiredControl queueing pollEvent scheduledHandshake earliestExpiry cookieDeadline rejectDeadline attemptDeadline handshakeRekeyTimeout foundOnSend foundAfterMessages foundOnReceive responseDeadline passiveDeadline persistentDeadline currentPersistentDeadline commonDeadline rekeyDeadline keepaliveDeadline unscheduledDeadline nextDeadline notBefore pollTimeout caseEvent caseState caseCompleted newHandshake awaits isInProgress inFlightInitiation setExpired isExpired cookieExpiration appendMac1AndMac2 initiateHandshake expects receiveHandshakeResponse confirming establish complete handleHandshakeResponse initiating initiate restartHandshake startHandshake placeOf emptyPlaces newRing ringIsEmpty storeAt pushBack popFront eventsFrom queued caseInterval newTimers rejectAfterTimeOf rekeyAttemptDeadline rekeyAfterTimeWithoutResponse keepaliveAfterTimeWithoutSend nextPersistentKeepalive clearTimers tickLastHandshakeCompleted tickLastHandshakeStarted tickLastPacketReceived tickLastPacketSent getOr tickLastDataPacketSent tickPersistentKeepalive rekeyTimeoutOf scheduleHandshake cancelScheduledHandshake consumePassiveKeepalive tickCompleted tickInitiation caseDatagram beginEncapsulate finishEncapsulate grant encryptKeepalive confirmFirstSession made gate timelessGate refused settled timed timeless kept timedTurn callNew callStart callSend callResponse callTimeout callEvent callDeadline clearAll expireControl scheduling queueKeepalive keepaliveDue passiveTimers keepaliveTimers sendKeepalive keepalives rekeyDue wakeIdle wakeInProgress expireCookie wakeLater wakeRest isLost isReplaced wakeCurrent wakeSessions sendScheduled wake handleTimeout transport.send step after plainCalls wokenCalls took ran timeOf established used lost example late unheld disordered isEleven isAbove testExpired testEarly testHeld noneEarlier testOrder
+unfolding choose wrappingIncrement caseTime caseRole caseReserved dueBy least earlier newSession emptySession rekeyAfterTimeOnSend rejectAfterTimeOnReceive expiresAt expiredAt shouldUseAt rekeyAfterMessagesReached sendingCounterExhausted preparePacketData reserveCounters caseFound caseSelected emptySlots newSessions inSlotOf get put currentOf inCurrentSlot indexAfter nextIndex inserting insert usable sendingSession isIndex select setCurrent clear emptied expiredSlot discard expireSlot expireFirst expire noneOf slotExpiry firstExpiry putSlot zeros numberOf intervalOf openingOutcome lacking badOutcome badJitter creationNumber timeHolds stateHolds inRange intervalHolds bothAtMost eventHolds slotHolds slotsHold queueHolds eventsHold handshakeHolds packetTimersHold dataTimersHold fieldsHold timersHold storedHolds controlHolds undamaged newControl refuse done expiredControl queueing pollEvent scheduledHandshake earliestExpiry cookieDeadline rejectDeadline attemptDeadline handshakeRekeyTimeout foundOnSend foundAfterMessages foundOnReceive responseDeadline passiveDeadline persistentDeadline currentPersistentDeadline commonDeadline rekeyDeadline keepaliveDeadline unscheduledDeadline nextDeadline notBefore pollTimeout caseEvent caseState caseCompleted newHandshake awaits isInProgress inFlightInitiation setExpired isExpired cookieExpiration appendMac1AndMac2 initiateHandshake expects receiveHandshakeResponse confirming establish complete handleHandshakeResponse initiating initiate restartHandshake startHandshake placeOf emptyPlaces newRing ringIsEmpty storeAt pushBack popFront eventsFrom queued caseInterval newTimers rejectAfterTimeOf rekeyAttemptDeadline rekeyAfterTimeWithoutResponse keepaliveAfterTimeWithoutSend nextPersistentKeepalive clearTimers tickLastHandshakeCompleted tickLastHandshakeStarted tickLastPacketReceived tickLastPacketSent getOr tickLastDataPacketSent tickPersistentKeepalive rekeyTimeoutOf scheduleHandshake cancelScheduledHandshake consumePassiveKeepalive tickCompleted tickInitiation caseDatagram beginEncapsulate finishEncapsulate grant encryptKeepalive confirmFirstSession made gate timelessGate refused settled timed timeless kept timedTurn callNew callStart callSend callResponse callTimeout callEvent callDeadline clearAll expireControl scheduling queueKeepalive keepaliveDue passiveTimers keepaliveTimers sendKeepalive keepaliveIfDue rekeyDue wakeIdle wakeInProgress expireCookie wakeLater wakeRest isLost isReplaced wakeCurrent wakeSessions sendScheduled wake handleTimeout transport.send step after plainCalls wokenCalls took ran timeOf established used lost example late unheld disordered isEleven isAbove testExpired testEarly testHeld noneEarlier testOrder
 computed =
     record {
       good = refl;

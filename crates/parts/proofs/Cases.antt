@@ -3,20 +3,14 @@
 use mathlib.Core.Path.{_≡_}
 use Prim.Native.Nat.{ℕ}
 use Rattle.parts.specs.Event.{caseEvent}
-use Rattle.parts.specs.Handshake.{caseState, caseCompleted, caseCookie}
+use Rattle.parts.specs.Handshake.{caseState}
 use Rattle.parts.specs.Timers.{caseInterval}
 use Rattle.parts.specs.declared.event.Event.{Event}
 use Rattle.parts.specs.declared.event.Event.the-variants.{Empty, SendHandshakeInitiation, SendKeepalive, Established, ConnectionExpired}
-use Rattle.parts.specs.declared.handshake.Completed.{Completed}
-use Rattle.parts.specs.declared.handshake.Completed.the-variants.{Failed, Opened}
-use Rattle.parts.specs.declared.handshake.Cookie.{Cookie}
-use Rattle.parts.specs.declared.handshake.Cookie.the-variants.{Unusable, Stored}
-use Rattle.parts.specs.declared.handshake.Handshake.{Handshake}
 use Rattle.parts.specs.declared.handshake.HandshakeState.{HandshakeState}
 use Rattle.parts.specs.declared.handshake.HandshakeState.the-variants.{None, InitSent, Expired}
 use Rattle.parts.specs.declared.timers.Interval.{Interval}
 use Rattle.parts.specs.declared.timers.Interval.the-variants.{Off, Every}
-use Rattle.session.specs.declared.session.Session.{Session}
 
 module _ {A : Type 0} where
   pub is-off : (d : Interval) (v x : A) (f : ℕ → A) → d ≡ Off → v ≡ x → v ≡ caseInterval d x f
@@ -40,26 +34,6 @@ module _ {A : Type 0} where
     unfolding caseState
     is-expired p q = rw p q
 
-  -- what a handshake message answered, where the code has the answer in a local
-  module _ (got answer : Completed) (v : A) (f : ℕ → A) (g : Handshake → Session → A) (e : got ≡ answer) where
-    pub is-failed : (number : ℕ) → got ≡ Failed number → v ≡ f number → v ≡ caseCompleted answer f g
-    unfolding caseCompleted
-    is-failed number p q = rw (← e, p) q
-
-    pub is-opened : (handshake : Handshake) (session : Session) → got ≡ Opened handshake session → v ≡ g handshake session → v ≡ caseCompleted answer f g
-    unfolding caseCompleted
-    is-opened handshake session p q = rw (← e, p) q
-
-  -- what a cookie reply answered, where the code has the answer in a local
-  module _ (got answer : Cookie) (v : A) (f : ℕ → A) (g : Handshake → A) (e : got ≡ answer) where
-    pub is-unusable : (number : ℕ) → got ≡ Unusable number → v ≡ f number → v ≡ caseCookie answer f g
-    unfolding caseCookie
-    is-unusable number p q = rw (← e, p) q
-
-    pub is-stored : (handshake : Handshake) → got ≡ Stored handshake → v ≡ g handshake → v ≡ caseCookie answer f g
-    unfolding caseCookie
-    is-stored handshake p q = rw (← e, p) q
-
   module _ (event : Event) (v x : A) (i : ℕ → A) (k s : ℕ → ℕ → A) (y : A) where
     pub is-empty : event ≡ Empty → v ≡ x → v ≡ caseEvent event x i k s y
     unfolding caseEvent
@@ -82,7 +56,5 @@ module _ {A : Type 0} where
     is-ended p q = rw p q
 
 pub ruleset states = (is-off, is-every, is-none, is-sent, is-expired)
-
-pub ruleset replies = (is-failed, is-opened, is-unusable, is-stored)
 
 pub ruleset events = (is-empty, is-initiation, is-keepalive, is-established, is-ended)

@@ -8,7 +8,7 @@ use borrow.Author.Tests.{eq-eqb, ne-eqb}
 use Rattle.base.specs.Choice.{choose}
 use Rattle.parts.specs.Handshake.{cookieExpiration, clearCookie, expireCookie}
 use Rattle.parts.specs.RingBuffer.{ringOf, placeOf, eventAt, storeAt, pushBack, popFront}
-use Rattle.parts.specs.Timers.{TimeWithin, IntervalWithin, withWaiting, withDataSent, getOr, tickLastHandshakeCompleted, tickLastHandshakeStarted, tickLastPacketReceived, tickLastPacketSent, tickLastDataPacketReceived, tickLastDataPacketSent, tickAccepted, tickResponse, tickCompleted, tickInitiation, cancelScheduledHandshake}
+use Rattle.parts.specs.Timers.{TimeWithin, IntervalWithin, withSentWithoutReply, withDataSent, getOr, tickLastHandshakeCompleted, tickLastHandshakeStarted, tickLastPacketReceived, tickLastPacketSent, tickLastDataPacketReceived, tickLastDataPacketSent, tickAccepted, tickResponse, tickCompleted, tickInitiation, cancelScheduledHandshake}
 use Rattle.parts.specs.declared.event.Event.{Event}
 use Rattle.parts.specs.declared.event.Event.the-variants.{Empty}
 use Rattle.parts.specs.declared.handshake.Handshake.{Handshake}
@@ -22,7 +22,7 @@ use Rattle.session.specs.declared.session.Time.the-variants.{At}
 use mir.Syntax.{w64}
 use mir.Val.{Fits}
 
--- a present time within the limit, and at most an hour more, fits a word
+-- a present time within the limit, and at most 120 s more, fits a word
 module _ (time : Time) (at : ℕ) (within : TimeWithin time timeLimit) (is : time ≡ At at) where
   pub fits-5 : Fits w64 (at + 5000000000)
   fits-5 = record { fits = omega (arith, within .within at is) }
@@ -44,10 +44,10 @@ module _ (interval : Interval) (seconds : ℕ) (within : IntervalWithin interval
   pub fits-kept : (kept : ℕ) → kept ≤ timeLimit → Fits w64 (kept + seconds * 1000000000)
   fits-kept kept h = record { fits = omega (arith, within .greatest seconds is) }
 
--- the timers after two or three ticks
+-- the timers after one, two or three ticks
 module _ (t : Timers) (now : ℕ) where
   pub data-sent : (first : ℕ) → first ≡ getOr (t .«first_data_sent_without_reply») now
-      → withWaiting (withDataSent t now) (At first) ≡ tickLastDataPacketSent t now
+      → withSentWithoutReply (withDataSent t now) (At first) ≡ tickLastDataPacketSent t now
   unfolding tickLastDataPacketSent
   data-sent first p = rw p
 

@@ -50,8 +50,8 @@ pub record TimersWithin (t : Timers) (most : ℕ) : Type 0 where
   pub dataReceived : t .«time_last_data_packet_received» ≤ most
   pub dataSent : t .«time_last_data_packet_sent» ≤ most
   pub kept : t .«time_persistent_keepalive» ≤ most
-  pub unanswered : TimeWithin (t .«last_data_received_without_reply») most
-  pub waiting : TimeWithin (t .«first_data_sent_without_reply») most
+  pub receivedWithoutReply : TimeWithin (t .«last_data_received_without_reply») most
+  pub sentWithoutReply : TimeWithin (t .«first_data_sent_without_reply») most
   pub scheduled : TimeWithin (t .«send_handshake_at») (most + maxJitter)
   pub interval : IntervalWithin (t .«persistent_keepalive»)
 
@@ -88,8 +88,8 @@ withPackets t completed started received sent = record {
 }
 
 -- timers with the times of data packets and of the persistent keepalive, those without a reply and the scheduled handshake given anew
-abbrev pub withData : Timers → (received sent kept : ℕ) (unanswered waiting scheduled : Time) → Timers
-withData t received sent kept unanswered waiting scheduled = record {
+abbrev pub withData : Timers → (received sent kept : ℕ) (receivedWithoutReply sentWithoutReply scheduled : Time) → Timers
+withData t received sent kept receivedWithoutReply sentWithoutReply scheduled = record {
   «time_last_handshake_completed» = t .«time_last_handshake_completed»;
   «time_last_handshake_started» = t .«time_last_handshake_started»;
   «time_last_packet_received» = t .«time_last_packet_received»;
@@ -97,8 +97,8 @@ withData t received sent kept unanswered waiting scheduled = record {
   «time_last_data_packet_received» = received;
   «time_last_data_packet_sent» = sent;
   «time_persistent_keepalive» = kept;
-  «last_data_received_without_reply» = unanswered;
-  «first_data_sent_without_reply» = waiting;
+  «last_data_received_without_reply» = receivedWithoutReply;
+  «first_data_sent_without_reply» = sentWithoutReply;
   «persistent_keepalive» = t .«persistent_keepalive»;
   «send_handshake_at» = scheduled;
 }
@@ -132,20 +132,20 @@ withDataSent t x =
     (t .«first_data_sent_without_reply») (t .«send_handshake_at»)
 
 -- timers with another time of the last persistent keepalive
-abbrev pub withKept : Timers → ℕ → Timers
-withKept t x =
+abbrev pub withPersistent : Timers → ℕ → Timers
+withPersistent t x =
     withData t (t .«time_last_data_packet_received») (t .«time_last_data_packet_sent») x (t .«last_data_received_without_reply»)
     (t .«first_data_sent_without_reply») (t .«send_handshake_at»)
 
 -- timers with another time of data received without a reply
-abbrev pub withUnanswered : Timers → Time → Timers
-withUnanswered t x =
+abbrev pub withReceivedWithoutReply : Timers → Time → Timers
+withReceivedWithoutReply t x =
     withData t (t .«time_last_data_packet_received») (t .«time_last_data_packet_sent») (t .«time_persistent_keepalive») x
     (t .«first_data_sent_without_reply») (t .«send_handshake_at»)
 
 -- timers with another time of data sent without a reply
-abbrev pub withWaiting : Timers → Time → Timers
-withWaiting t x =
+abbrev pub withSentWithoutReply : Timers → Time → Timers
+withSentWithoutReply t x =
     withData t (t .«time_last_data_packet_received») (t .«time_last_data_packet_sent») (t .«time_persistent_keepalive»)
     (t .«last_data_received_without_reply») x (t .«send_handshake_at»)
 
@@ -191,15 +191,15 @@ tickLastHandshakeStarted t now = withStarted t now
 
 -- a packet was received, which answers data that was sent
 unfoldable pub tickLastPacketReceived : Timers → ℕ → Timers
-tickLastPacketReceived t now = withWaiting (withReceived t now) Never
+tickLastPacketReceived t now = withSentWithoutReply (withReceived t now) Never
 
 -- a packet was sent, which answers data that was received
 unfoldable pub tickLastPacketSent : Timers → ℕ → Timers
-tickLastPacketSent t now = withUnanswered (withSent t now) Never
+tickLastPacketSent t now = withReceivedWithoutReply (withSent t now) Never
 
 -- data was received, to which nothing has been sent since
 unfoldable pub tickLastDataPacketReceived : Timers → ℕ → Timers
-tickLastDataPacketReceived t now = withUnanswered (withDataReceived t now) (At now)
+tickLastDataPacketReceived t now = withReceivedWithoutReply (withDataReceived t now) (At now)
 
 -- a present time, or else this one
 unfoldable pub getOr : Time → ℕ → ℕ
@@ -207,11 +207,11 @@ getOr time now = caseTime time now (λ at. at)
 
 -- data was sent; later sends do not postpone the deadline for the first unanswered packet
 unfoldable pub tickLastDataPacketSent : Timers → ℕ → Timers
-tickLastDataPacketSent t now = withWaiting (withDataSent t now) (At (getOr (t .«first_data_sent_without_reply») now))
+tickLastDataPacketSent t now = withSentWithoutReply (withDataSent t now) (At (getOr (t .«first_data_sent_without_reply») now))
 
 -- a persistent keepalive was due
 unfoldable pub tickPersistentKeepalive : Timers → ℕ → Timers
-tickPersistentKeepalive t now = withKept t now
+tickPersistentKeepalive t now = withPersistent t now
 
 -- the retry deadline for a handshake initiation sent at this time
 unfoldable pub rekeyTimeoutOf : Time → Time
@@ -227,7 +227,7 @@ cancelScheduledHandshake t = withScheduled t Never
 
 -- the passive-keepalive deadline dropped
 unfoldable pub consumePassiveKeepalive : Timers → Timers
-consumePassiveKeepalive t = withUnanswered t Never
+consumePassiveKeepalive t = withReceivedWithoutReply t Never
 
 -- messages were accepted, data among them or not
 unfoldable pub tickAccepted : Timers → Bool → ℕ → Timers

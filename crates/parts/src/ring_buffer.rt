@@ -4,10 +4,12 @@ ghost use mathlib.Core.Path.{_≡_};
 ghost use Prim.Native.Nat.{_≤_, _<_};
 ghost use Rattle.parts.specs.RingBuffer.{RingWithin, placeOf, newRing, ringIsEmpty, storeAt, pushBack, popFront, QueueOfNewest};
 
+// One place of the ring.
 pub struct Slot {
     pub event: Event,
 }
 
+// The places, that of the oldest event, and how many events there are.
 pub struct RingBuffer {
     pub slots: [Slot; 16],
     pub head: usize,

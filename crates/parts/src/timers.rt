@@ -32,7 +32,7 @@ pub struct Timers {
     pub time_last_data_packet_received: u64,
     // When we last sent a data packet.
     pub time_last_data_packet_sent: u64,
-    // When we last sent a persistent keepalive.
+    // When a persistent keepalive was last due, sent or not.
     pub time_persistent_keepalive: u64,
     // When we last received data without replying, used for the passive-keepalive deadline.
     pub last_data_received_without_reply: Time,
@@ -157,7 +157,7 @@ impl Timers {
     }
 
     // A handshake completed.
-    pub(crate) fn tick_last_handshake_completed(mut self, now: u64) -> Timers
+    fn tick_last_handshake_completed(mut self, now: u64) -> Timers
         ensures { λ r. ⌜ r ≡ tickLastHandshakeCompleted self now ⌝ }
     {
         self.time_last_handshake_completed = now;
@@ -165,7 +165,7 @@ impl Timers {
     }
 
     // A round of handshake attempts began.
-    pub(crate) fn tick_last_handshake_started(mut self, now: u64) -> Timers
+    fn tick_last_handshake_started(mut self, now: u64) -> Timers
         ensures { λ r. ⌜ r ≡ tickLastHandshakeStarted self now ⌝ }
     {
         self.time_last_handshake_started = now;

@@ -32,7 +32,7 @@ enum Words {
 }
 
 // An answer: its words, and how many of the three numbers follow them.
-struct Said {
+struct Reply {
     words: Words,
     count: u8,
     first: u64,
@@ -41,8 +41,8 @@ struct Said {
 }
 
 // Words alone.
-fn words_alone(words: Words) -> Said {
-    Said {
+fn words_alone(words: Words) -> Reply {
+    Reply {
         words,
         count: 0,
         first: 0,
@@ -52,8 +52,8 @@ fn words_alone(words: Words) -> Said {
 }
 
 // Words and a number.
-fn words_and_one(words: Words, first: u64) -> Said {
-    Said {
+fn words_and_one(words: Words, first: u64) -> Reply {
+    Reply {
         words,
         count: 1,
         first,
@@ -63,8 +63,8 @@ fn words_and_one(words: Words, first: u64) -> Said {
 }
 
 // Words and two numbers.
-fn words_and_two(words: Words, first: u64, second: u64) -> Said {
-    Said {
+fn words_and_two(words: Words, first: u64, second: u64) -> Reply {
+    Reply {
         words,
         count: 2,
         first,
@@ -74,8 +74,8 @@ fn words_and_two(words: Words, first: u64, second: u64) -> Said {
 }
 
 // What a granted range says.
-fn said_of_range(range: Range) -> Said {
-    Said {
+fn reply_of_range(range: Range) -> Reply {
+    Reply {
         words: Words::Granted,
         count: 3,
         first: range.peer as u64,
@@ -85,7 +85,7 @@ fn said_of_range(range: Range) -> Said {
 }
 
 // What an event says.
-fn said_of_event(event: Event) -> Said {
+fn reply_of_event(event: Event) -> Reply {
     match event {
         Event::Empty => words_alone(Words::Nothing),
         Event::SendHandshakeInitiation(index) => words_and_one(Words::Initiation, index as u64),
@@ -100,7 +100,7 @@ fn said_of_event(event: Event) -> Said {
 }
 
 // What a deadline says.
-fn said_of_deadline(deadline: Time) -> Said {
+fn reply_of_deadline(deadline: Time) -> Reply {
     match deadline {
         Time::Never => words_alone(Words::Nothing),
         Time::At(time) => words_and_one(Words::Deadline, time),
@@ -108,7 +108,7 @@ fn said_of_deadline(deadline: Time) -> Said {
 }
 
 // What a call's answer says.
-fn said_of_answer(answer: Answer) -> Said {
+fn reply_of_answer(answer: Answer) -> Reply {
     match answer {
         Answer::No(number) => words_and_one(Words::No, number as u64),
         Answer::Done => words_alone(Words::Done),
@@ -116,9 +116,9 @@ fn said_of_answer(answer: Answer) -> Said {
         Answer::Initiation(index) => words_and_one(Words::Initiation, index as u64),
         Answer::Response(index, peer) => words_and_two(Words::Response, index as u64, peer as u64),
         Answer::Keepalive(peer, counter) => words_and_two(Words::Keepalive, peer as u64, counter),
-        Answer::Granted(range) => said_of_range(range),
-        Answer::Polled(event) => said_of_event(event),
-        Answer::Deadline(deadline) => said_of_deadline(deadline),
+        Answer::Granted(range) => reply_of_range(range),
+        Answer::Polled(event) => reply_of_event(event),
+        Answer::Deadline(deadline) => reply_of_deadline(deadline),
         Answer::Report(missing) => words_and_one(Words::Missing, missing),
     }
 }
@@ -141,7 +141,7 @@ fn put_words(out: &mut [u8], at: usize, words: Words) -> usize {
 }
 
 // Puts what an answer says.
-fn put_said(out: &mut [u8], at: usize, said: Said) -> usize {
+fn put_said(out: &mut [u8], at: usize, said: Reply) -> usize {
     let words = said.words;
     let first = put_words(out, at, words);
     if said.count == 0 {
@@ -160,7 +160,7 @@ fn put_said(out: &mut [u8], at: usize, said: Said) -> usize {
 
 // Puts a call's answer.
 fn put_answer(out: &mut [u8], at: usize, answer: Answer) -> usize {
-    put_said(out, at, said_of_answer(answer))
+    put_said(out, at, reply_of_answer(answer))
 }
 
 // A verdict as a number of 64 bits.

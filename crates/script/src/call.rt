@@ -54,7 +54,7 @@ fn call_session(tunnel: Tunnel, call: SessionCall, store: &mut [u64]) -> Answere
     }
 }
 
-// How many places a batch takes of each list: one for each message, and no more than there are.
+// How many places a batch takes of each list: one for each message, or none where a list has too few.
 fn places(messages: usize, counters: &[u64], kinds: &[u8], verdicts: &[u8]) -> usize
     ensures { λ r. ⌜ Places r (length (now (counters .entry))) (length (now (kinds .entry))) (length (now (verdicts .entry))) ⌝ }
 {

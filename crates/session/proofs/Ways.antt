@@ -10,8 +10,8 @@ use Rattle.base.proofs.Choice.{yes-eq}
 use Rattle.window.specs.Window.{willAccept}
 use Rattle.session.specs.declared.session.Role.the-variants.{Initiator}
 use Rattle.session.specs.declared.session.Session.{Session}
-use Rattle.session.specs.Index.{slotIn}
-use Rattle.session.specs.Store.{slotOf}
+use Rattle.session.specs.Index.{slotOf}
+use Rattle.session.specs.Store.{slotWords}
 use Rattle.session.specs.Session.{newSession, withFilled, emptySession, willReceive}
 use Rattle.session.proofs.Words.{part-is}
 
@@ -27,5 +27,5 @@ pub looked : (s : Session) (store : List ℕ) (receiver counter start end r : �
 unfolding willReceive
 looked s store receiver counter start end r l i e b f =
     yes-eq (length store) 1024 r (choose _ _ 6) 2 l
-    (yes-eq receiver (s .«receiving_index») r (willAccept (slotOf store (slotIn receiver)) (s .next) counter) 6 i
+    (yes-eq receiver (s .«receiving_index») r (willAccept (slotWords store (slotOf receiver)) (s .next) counter) 6 i
     (e ∙ ap (λ (words : List ℕ). willAccept words (s .next) counter) (part-is store (receiver % 8) start end b f)))

@@ -9,11 +9,11 @@ use lib.ListN.{length, take, drop, length-append, length-drop, length-replicate,
 use lib.Seq.{drop-drop, length-take-le, take-append-le, drop-append-le, drop-append-add, take-at, drop-at}
 use borrow.Rule.Slice.PartMut.{putMid}
 use Rattle.base.proofs.Zeros.{Zeroed, zero-ends}
-use Rattle.session.specs.Store.{slotOf, putSlot, zeros}
+use Rattle.session.specs.Store.{slotWords, putSlot, zeros}
 
 -- a part lent on is a slot's words
-pub part-is : (store : List ℕ) (k start end : ℕ) → start ≡ 128 * k → end ≡ start + 128 → take (end - start) (drop start store) ≡ slotOf store k
-unfolding slotOf
+pub part-is : (store : List ℕ) (k start end : ℕ) → start ≡ 128 * k → end ≡ start + 128 → take (end - start) (drop start store) ≡ slotWords store k
+unfolding slotWords
 part-is store k start end s e = let size : end - start ≡ 128 = omega arith in rw (size, s)
 
 -- the store after a part came back
@@ -24,8 +24,8 @@ part-put store words k start end s e =
     rw (size, s) (ap (λ (x : List ℕ). take (128 * k) store ++ (words ++ x)) (drop-drop 128 (128 * k) store))
 
 -- a slot's words are 128
-pub slot-long : (store : List ℕ) (k : ℕ) → length store ≡ 1024 → k < 8 → length (slotOf store k) ≡ 128
-unfolding slotOf
+pub slot-long : (store : List ℕ) (k : ℕ) → length store ≡ 1024 → k < 8 → length (slotWords store k) ≡ 128
+unfolding slotWords
 slot-long store k l h = length-take-le 128 (drop (128 * k) store) (rw length-drop (omega arith))
 
 -- a slot of a store zeroed as a part of it
@@ -61,21 +61,21 @@ module _ (store words : List ℕ) (k : ℕ) (l : length store ≡ 1024) (low : k
   length-put = simp (length-append, length-drop) (omega (arith, before))
 
   -- the slot itself
-  pub slot-same : slotOf (putSlot store k words) k ≡ words
-  unfolding slotOf putSlot
+  pub slot-same : slotWords (putSlot store k words) k ≡ words
+  unfolding slotWords putSlot
   slot-same = rw (drop-at (take (128 * k) store) (words ++ drop (128 * k + 128) store) (128 * k) before) (take-at words (drop (128 * k + 128) store) 128 long)
 
   -- a slot before it
-  slot-before : (j : ℕ) → j < k → slotOf (putSlot store k words) j ≡ slotOf store j
-  unfolding slotOf putSlot
+  slot-before : (j : ℕ) → j < k → slotWords (putSlot store k words) j ≡ slotWords store j
+  unfolding slotWords putSlot
   slot-before j h =
       front (take (128 * k) store) (words ++ drop (128 * k + 128) store) (128 * j) (omega (arith, before))
       ∙ sym (front (take (128 * k) store) (drop (128 * k) store) (128 * j) (omega (arith, before)))
       ∙ ap (λ (x : List ℕ). take 128 (drop (128 * j) x)) (take-append-drop (128 * k) store)
 
   -- a slot after it
-  slot-after : (j : ℕ) → k < j → slotOf (putSlot store k words) j ≡ slotOf store j
-  unfolding slotOf putSlot
+  slot-after : (j : ℕ) → k < j → slotWords (putSlot store k words) j ≡ slotWords store j
+  unfolding slotWords putSlot
   slot-after j h =
       let size : length (take (128 * k) store ++ words) ≡ 128 * k + 128 = rw length-append (omega (arith, before)) in
       let place : 128 * j ≡ length (take (128 * k) store ++ words) + (128 * j - (128 * k + 128)) = omega (arith, size) in
@@ -86,7 +86,7 @@ module _ (store words : List ℕ) (k : ℕ) (l : length store ≡ 1024) (low : k
       ∙ back (take (128 * k) store ++ words) (drop (128 * k + 128) store) (128 * j - (128 * k + 128))
       ∙ drop-drop (128 * j - (128 * k + 128)) (128 * k + 128) store ∙ ap (λ (n : ℕ). drop n store) there)
 
-  pub slot-other : (j : ℕ) → (j ≡ k → ⊥) → slotOf (putSlot store k words) j ≡ slotOf store j
+  pub slot-other : (j : ℕ) → (j ≡ k → ⊥) → slotWords (putSlot store k words) j ≡ slotWords store j
   slot-other j d = elim (decLe k j) [
     | yes h ↦ slot-after j (omega arith)
     | no h ↦ slot-before j (omega arith)

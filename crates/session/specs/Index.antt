@@ -6,5 +6,5 @@ unfoldable pub wrappingIncrement : ℕ → ℕ
 wrappingIncrement index = index - index % 256 + (index % 256 + 1) % 256
 
 -- the slot of an index
-abbrev pub slotIn : ℕ → ℕ
-slotIn index = index % 8
+abbrev pub slotOf : ℕ → ℕ
+slotOf index = index % 8

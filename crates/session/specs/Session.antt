@@ -5,8 +5,8 @@ use Prim.Native.Nat.{ℕ, _+_, _-_}
 use lib.Dec.{ltb, leb, eqb}
 use Rattle.base.specs.Choice.{choose}
 use Rattle.window.specs.Window.{limit, willAccept}
-use Rattle.session.specs.Index.{slotIn}
-use Rattle.session.specs.Store.{whole, slotOf}
+use Rattle.session.specs.Index.{slotOf}
+use Rattle.session.specs.Store.{whole, slotWords}
 use Rattle.session.specs.declared.session.Time.{Time}
 use Rattle.session.specs.declared.session.Time.the-variants.{Never, At}
 use Rattle.session.specs.declared.session.Role.{Role}
@@ -15,7 +15,7 @@ use Rattle.session.specs.declared.session.Session.{Session}
 use Rattle.session.specs.declared.session.Reserved.{Reserved}
 use Rattle.session.specs.declared.session.Reserved.the-variants.{TooFew, First}
 
--- LIMIT, which no counter reaches
+-- LIMIT, by the name that the crates without the window use: no counter at or above it is granted or committed
 abbrev pub rejectAfterMessages : ℕ
 rejectAfterMessages = limit
 
@@ -177,5 +177,5 @@ reserveCounters s len =
 unfoldable pub willReceive : Session → List ℕ → (receiver counter : ℕ) → ℕ
 willReceive s store receiver counter =
     choose (whole store)
-    (choose (eqb receiver (s .«receiving_index»)) (willAccept (slotOf store (slotIn receiver)) (s .next) counter) 6)
+    (choose (eqb receiver (s .«receiving_index»)) (willAccept (slotWords store (slotOf receiver)) (s .next) counter) 6)
     2

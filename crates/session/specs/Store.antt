@@ -12,8 +12,8 @@ abbrev pub whole : List ℕ → Bool
 whole store = eqb (length store) 1024
 
 -- the words of a slot
-unfoldable pub slotOf : List ℕ → ℕ → List ℕ
-slotOf store k = take 128 (drop (128 * k) store)
+unfoldable pub slotWords : List ℕ → ℕ → List ℕ
+slotWords store k = take 128 (drop (128 * k) store)
 
 -- the store with other words for a slot
 unfoldable pub putSlot : List ℕ → ℕ → List ℕ → List ℕ

@@ -14,10 +14,10 @@ use Rattle.session.specs.declared.session.Session.{Session}
 use Rattle.sessions.specs.declared.sessions.Found.the-variants.{Nothing}
 use Rattle.sessions.specs.declared.sessions.Sessions.{Sessions}
 use Rattle.sessions.specs.declared.sessions.Expired.{Expired}
-use Rattle.session.specs.Index.{slotIn}
+use Rattle.session.specs.Index.{slotOf}
 use Rattle.session.specs.Store.{putSlot, zeros}
 use Rattle.session.specs.Session.{emptySession, withId}
-use Rattle.sessions.specs.Sessions.{slotAt, put, emptied, inserting, insert, isIndex, discard, expiredSlot, Expiring, expireSlot, expireFirst, expire}
+use Rattle.sessions.specs.Sessions.{expiring, slotAt, put, emptied, inserting, insert, isIndex, discard, expiredSlot, Expiring, expireSlot, expireFirst, expire}
 use Rattle.sessions.specs.Laws.{Kept}
 use Rattle.session.proofs.Words.{length-zeros, length-put, slot-other}
 
@@ -36,7 +36,7 @@ module _ (s : Sessions) (store : List ℕ) (l : length store ≡ 1024) (slot k :
       }
 
 -- an insertion
-pub kept-insert : (s : Sessions) (store : List ℕ) (slot : ℕ) (x : Session) → (slot ≡ slotIn (x .«receiving_index») → ⊥)
+pub kept-insert : (s : Sessions) (store : List ℕ) (slot : ℕ) (x : Session) → (slot ≡ slotOf (x .«receiving_index») → ⊥)
     → Kept s (insert s store x .sessions) store (insert s store x .store) slot
 unfolding insert inserting put choose
 kept-insert s store slot x d = go (eqb (length store) 1024) refl
@@ -97,6 +97,6 @@ module _ (s : Sessions) (store : List ℕ) (slot now : ℕ) (due : expiredSlot s
   kept-expire = go (eqb (length store) 1024) refl
     where
       go : (b : Bool) → eqb (length store) 1024 ≡ b → Kept s (expire s store now .expired .sessions) store (expire s store now .store) slot
-      go true e = rw e (stays-first (record { expired = record { sessions = s; current = Nothing }; store = store }) 8 (omega arith)
+      go true e = rw e (stays-first (expiring (record { sessions = s; current = Nothing }) store) 8 (omega arith)
           (record { kept = kept-same s store slot; size = eqb-true (length store) 1024 e }) .kept)
       go false e = rw e (kept-same s store slot)

@@ -21,7 +21,7 @@ use Rattle.session.specs.declared.session.Session.{Session}
 use Rattle.sessions.specs.declared.sessions.Found.{Found}
 use Rattle.sessions.specs.declared.sessions.Found.the-variants.{Nothing, Got}
 use Rattle.sessions.specs.declared.sessions.Sessions.{Sessions}
-use Rattle.session.specs.Store.{slotOf, putSlot, Leaves}
+use Rattle.session.specs.Store.{slotWords, putSlot, Leaves}
 use Rattle.sessions.specs.Sessions.{caseFound, put}
 use Rattle.sessions.specs.Batch.{known, fits, accepting, finish, finishWords, FinishesAt, Batch, withVerdict, finishAll, Finishes, started, withProgress, receivingSession, refused, Ready, FinishesSlot, answered, commit, receive, Receives}
 use Rattle.session.proofs.Words.{part-is, part-put}
@@ -175,7 +175,7 @@ pub slot-finished : (store counters kinds : List ℕ) (x : Session) (start end :
     → start ≡ 128 * (x .«receiving_index» % 8) → end ≡ start + 128
     → FinishesSlot store x counters kinds progress (putMid start (end - start) store last) given
 slot-finished store counters kinds x start end from progress last given q f b d =
-    let part : take (end - start) (drop start store) ≡ slotOf store (x .«receiving_index» % 8) = part-is store (x .«receiving_index» % 8) start end b d in
+    let part : take (end - start) (drop start store) ≡ slotWords store (x .«receiving_index» % 8) = part-is store (x .«receiving_index» % 8) start end b d in
     record {
       out = f .out ∙ rw (q, part);
       words = part-put store last (x .«receiving_index» % 8) start end b d ∙ ap (putSlot store (x .«receiving_index» % 8)) (f .left ∙ rw (q, part));

@@ -10,7 +10,7 @@ use Rattle.base.specs.Choice.{choose}
 use Rattle.session.specs.declared.session.Session.{Session}
 use Rattle.sessions.specs.declared.sessions.Found.the-variants.{Got}
 use Rattle.sessions.specs.declared.sessions.Sessions.{Sessions}
-use Rattle.session.specs.Index.{slotIn, wrappingIncrement}
+use Rattle.session.specs.Index.{slotOf, wrappingIncrement}
 use Rattle.sessions.specs.Sessions.{caseFound, currentOf, inCurrentSlot, indexAfter, nextIndex}
 use Rattle.sessions.specs.Laws.{NextIndexLaw}
 
@@ -24,7 +24,7 @@ unfolding wrappingIncrement
 next-upper i = omega arith
 
 -- whether a number has the current session's slot, where there is a current session
-slot-test : (s : Sessions) (x : Session) (i : ℕ) → currentOf s ≡ Got x → inCurrentSlot s i ≡ eqb (slotIn (x .«receiving_index»)) (slotIn i)
+slot-test : (s : Sessions) (x : Session) (i : ℕ) → currentOf s ≡ Got x → inCurrentSlot s i ≡ eqb (slotOf (x .«receiving_index»)) (slotOf i)
 unfolding inCurrentSlot caseFound
 slot-test s x i e = rw e
 
@@ -41,13 +41,13 @@ module _ (s : Sessions) where
   takes-second e = rw e
 
   -- the two cases of a number allocated
-  other-slot : (x : Session) → currentOf s ≡ Got x → (b : Bool) → inCurrentSlot s first ≡ b → slotIn (nextIndex s .index) ≡ slotIn (x .«receiving_index») → ⊥
+  other-slot : (x : Session) → currentOf s ≡ Got x → (b : Bool) → inCurrentSlot s first ≡ b → slotOf (nextIndex s .index) ≡ slotOf (x .«receiving_index») → ⊥
   other-slot x c false e q =
-      eqb-false (slotIn (x .«receiving_index»)) (slotIn first) (sym (slot-test s x first c) ∙ e) (sym (ap slotIn (sym (takes-first e)) ∙ q))
+      eqb-false (slotOf (x .«receiving_index»)) (slotOf first) (sym (slot-test s x first c) ∙ e) (sym (ap slotOf (sym (takes-first e)) ∙ q))
   other-slot x c true e q =
-      let here : slotIn (x .«receiving_index») ≡ slotIn first =
-      eqb-true (slotIn (x .«receiving_index»)) (slotIn first) (sym (slot-test s x first c) ∙ e) in
-      let there : slotIn (wrappingIncrement first) ≡ slotIn (x .«receiving_index») = ap slotIn (sym (takes-second e)) ∙ q in
+      let here : slotOf (x .«receiving_index») ≡ slotOf first =
+      eqb-true (slotOf (x .«receiving_index»)) (slotOf first) (sym (slot-test s x first c) ∙ e) in
+      let there : slotOf (wrappingIncrement first) ≡ slotOf (x .«receiving_index») = ap slotOf (sym (takes-second e)) ∙ q in
       omega (arith, next-slot first)
 
   same-upper : (b : Bool) → inCurrentSlot s first ≡ b → nextIndex s .index / 256 ≡ s .«last_index» / 256

@@ -8,7 +8,7 @@ use Rattle.base.specs.Choice.{choose}
 use Rattle.window.specs.Window.{isInvalid}
 use Rattle.window.specs.History.{member, expected, judged}
 use Rattle.sessions.specs.declared.sessions.Found.the-variants.{Got}
-use Rattle.session.specs.Index.{slotIn}
+use Rattle.session.specs.Index.{slotOf}
 use Rattle.session.specs.Store.{putSlot, zeros}
 use Rattle.session.specs.Session.{newSession, emptySession, expiredAt}
 use Rattle.sessions.specs.Sessions.{caseFound, emptySlots, newSessions, inSlotOf, get, put, inserting, insert}
@@ -25,7 +25,7 @@ words-held : length (zeros 1024) ≡ 1024
 unfolding zeros
 words-held = refl
 
-stands-first : Stands [] (firstHeld .sessions) (firstHeld .store) (slotIn 257)
+stands-first : Stands [] (firstHeld .sessions) (firstHeld .store) (slotOf 257)
 unfolding firstHeld firstSession newSession
 stands-first = fresh-law (newSessions 256) (zeros 1024) firstSession eight-slots words-held refl .stands
 

@@ -11,14 +11,14 @@ use lib.Seq.{getD-set-same}
 use borrow.Author.Tests.{eqb-true, eqb-false, eq-eqb, ne-eqb}
 use Rattle.base.specs.Choice.{choose}
 use Rattle.window.specs.Window.{limit, empty, willAccept, nextAfter, wordsAfter}
-use Rattle.window.specs.History.{member, expected, judged, committing, Represents}
-use Rattle.window.proofs.History.{represents-fresh, represents-verdict, judged-zero, judged-only, represents-commit}
+use Rattle.window.specs.History.{member, expected, judged, Represents}
+use Rattle.window.proofs.History.{committing, represents-fresh, represents-verdict, judged-zero, judged-only, represents-commit}
 use Rattle.window.proofs.Counted.{represents-ones}
 use Rattle.sessions.specs.declared.batch.Progress.{Progress}
 use Rattle.session.specs.declared.session.Session.{Session}
 use Rattle.sessions.specs.declared.sessions.Sessions.{Sessions}
-use Rattle.session.specs.Index.{slotIn}
-use Rattle.session.specs.Store.{slotOf, putSlot, zeros, onesOf, missingOf}
+use Rattle.session.specs.Index.{slotOf}
+use Rattle.session.specs.Store.{slotWords, putSlot, zeros, onesOf, missingOf}
 use Rattle.session.specs.Session.{emptySession, withId}
 use Rattle.sessions.specs.Sessions.{caseFound, slotAt, put, inserting, insert}
 use Rattle.sessions.specs.Batch.{accepting, finish, finishWords, Batch, finishAll, started, batchOf, withProgress, answered, committedTo, commit, receive}
@@ -92,7 +92,7 @@ put-stands : (history : List ℕ) (s last : Sessions) (store words : List ℕ) (
     → Stands history last (putSlot store k words) k
 put-stands history s last store words k x n l low e r =
     let there : slotAt last k ≡ x = ap (λ (slots : List Session). getD slots k emptySession) e ∙ getD-set-same (s .slots) k x emptySession (omega arith) in
-    let same : slotOf (putSlot store k words) k ≡ words = slot-same store words k l low (r .long) in
+    let same : slotWords (putSlot store k words) k ≡ words = slot-same store words k l low (r .long) in
     rw (there, same) r
 
 -- the whole call
@@ -107,7 +107,7 @@ module _ (c : Call) (x : Session) (history : List ℕ) (live : Live c x history)
   its : InSlot (c .sessions) (c .index) x
   its = receiving-slot (c .sessions) (c .index) (c .id) (c .now) x (live .found)
 
-  begun : Represents history (slotOf (c .store) (slotIn (x .«receiving_index»))) (started x .next)
+  begun : Represents history (slotWords (c .store) (slotOf (x .«receiving_index»))) (started x .next)
   unfolding started
   begun = rw (its .named, its .stored) (live .stands)
 
@@ -116,10 +116,10 @@ module _ (c : Call) (x : Session) (history : List ℕ) (live : Live c x history)
   number-is = rw goes
 
   given : mine .verdicts ≡ verdictsOn history (c .counters) (c .kinds)
-  given = judges-all history (slotOf (c .store) (slotIn (x .«receiving_index»))) (started x) begun (c .counters) (c .kinds)
+  given = judges-all history (slotWords (c .store) (slotOf (x .«receiving_index»))) (started x) begun (c .counters) (c .kinds)
 
   ended : Represents (recordedAll history (c .counters) (mine .verdicts)) (mine .words) (withProgress x (mine .progress) .next)
-  ended = rw (given, progress-next) (stands-all history (slotOf (c .store) (slotIn (x .«receiving_index»))) (started x) begun (c .counters) (c .kinds))
+  ended = rw (given, progress-next) (stands-all history (slotWords (c .store) (slotOf (x .«receiving_index»))) (started x) begun (c .counters) (c .kinds))
 
   pub batch-law : BatchLaw c history
   batch-law =

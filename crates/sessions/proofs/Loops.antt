@@ -1,16 +1,17 @@
--- The loops over the slots: where each begins, a turn, and where it ends.
+-- The loops over the slots: where each begins, a turn, and where it ends; and an expiry that finds none due changes nothing.
 -- Assumes nothing.
 use mathlib.Core.Path.{_≡_, refl, ap, sym, _∙_}
 use mathlib.Core.Bool.{Bool, true, false}
-use mathlib.Core.List.{List, map}
+use mathlib.Core.List.{List}
 use Prim.Native.Nat.{ℕ, zero, suc, _+_, _-_, _≤_, _<_}
 use native.Mathlib.Nat.{add-zero, add-suc}
 use native.Mathlib.Numerals.{add-one}
 use native.Mathlib.Omega.{arith}
-use lib.ListN.{length, length-map}
+use lib.ListN.{length}
 use borrow.Author.Tests.{eq-eqb}
 use Rattle.base.specs.Choice.{choose}
 use Rattle.base.specs.First.{noneOf}
+use Rattle.base.proofs.Choice.{same-choice}
 use Rattle.base.proofs.First.{none-last}
 use Rattle.session.specs.declared.session.Time.{Time}
 use Rattle.session.specs.declared.session.Time.the-variants.{Never}
@@ -20,13 +21,9 @@ use Rattle.sessions.specs.declared.sessions.Expired.{Expired}
 use Rattle.session.specs.Store.{whole, Leaves}
 use Rattle.session.specs.Session.{timeLimit, earlier}
 use Rattle.sessions.specs.Check.{slotHolds, slotsHold}
-use Rattle.sessions.specs.Sessions.{TimesWithin, slotAt, slotExpiry, firstExpiry, expiredSlot, noneExpired, Expiring, Expires, expireSlot, expireFirst, expire}
+use Rattle.sessions.specs.Sessions.{expiring, TimesWithin, slotAt, slotExpiry, firstExpiry, expiredSlot, noneExpired, Expiring, expireSlot, expireFirst, expire}
 
--- the length of a list of records, read off a field's
-pub long : {A B : Type 0} (f : A → B) (l : List A) (n : ℕ) → length (map f l) ≡ n → length l ≡ n
-long f l n e = sym (length-map l f) ∙ e
-
--- the earliest expiry of one more slot
+-- the time of a slot, and the earliest expiry of one more slot
 module _ (s : Sessions) where
   pub slot-within : (slot : ℕ) → TimesWithin s → slot < 8 → slotAt s slot .filled ≡ true → slotAt s slot .«established_at» ≤ timeLimit
   slot-within slot w = w .within slot
@@ -47,15 +44,15 @@ module _ (s : Sessions) where
 pub record Gone (began : Expired) (store : List ℕ) (time slot : ℕ) (e : Expired) (left : List ℕ) : Type 0 where
   pub within : slot ≤ 8
   pub size : length left ≡ 1024
-  pub out : e ≡ expireFirst (record { expired = began; store = store }) slot time .expired
-  pub words : left ≡ expireFirst (record { expired = began; store = store }) slot time .store
+  pub out : e ≡ expireFirst (expiring began store) slot time .expired
+  pub words : left ≡ expireFirst (expiring began store) slot time .store
 
 module _ (began : Expired) (store : List ℕ) (time : ℕ) where
   pub gone-begins : length store ≡ 1024 → Gone began store time 0 began store
   unfolding expireFirst
   gone-begins l = record { within = omega arith; size = l; out = refl; words = refl }
 
-  pub gone-more : (slot : ℕ) (e last : Expired) (left after : List ℕ) → Gone began store time slot e left → slot < 8 → Expires e left slot time last after
+  pub gone-more : (slot : ℕ) (e last : Expired) (left after : List ℕ) → Gone began store time slot e left → slot < 8 → Leaves last (expireSlot (expiring e left) slot time .expired) after (expireSlot (expiring e left) slot time .store)
       → length after ≡ length left → Gone began store time (slot + 1) last after
   unfolding expireFirst
   gone-more slot e last left after g h x l =
@@ -75,11 +72,6 @@ gone-ends s store time slot e left g l h =
     rw (eq-eqb (length store) 1024 l) (record { out = rw (← same) (g .out); words = rw (← same) (g .words) })
 
 -- an expiry where no session is expired leaves all as it was
-same-choice : {A : Type 0} (t : Bool) (x : A) → choose t x x ≡ x
-unfolding choose
-same-choice true x = refl
-same-choice false x = refl
-
 module _ (s : Sessions) (now : ℕ) where
   slot-stays : (e : Expiring) (slot : ℕ) → e .expired .sessions ≡ s → expiredSlot s slot now ≡ false → expireSlot e slot now ≡ e
   unfolding expireSlot choose
@@ -93,10 +85,10 @@ module _ (s : Sessions) (now : ℕ) where
       rw (slots-stay e count same (n .1)) (slot-stays e count same (n .0))
 
   pub expire-none : (store : List ℕ) → noneExpired s now ≡ true
-      → expire s store now ≡ record { expired = record { sessions = s; current = Nothing }; store = store }
+      → expire s store now ≡ expiring (record { sessions = s; current = Nothing }) store
   unfolding expire
   expire-none store p =
-      rw (slots-stay (record { expired = record { sessions = s; current = Nothing }; store = store }) 8 refl p) (same-choice (whole store) _)
+      rw (slots-stay (expiring (record { sessions = s; current = Nothing }) store) 8 refl p) (same-choice (whole store) _)
 
 -- the first slots hold
 pub record SlotsYet (s : Sessions) (greatest slot : ℕ) : Type 0 where

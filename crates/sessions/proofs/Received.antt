@@ -16,8 +16,8 @@ use Rattle.session.specs.declared.session.Session.{Session}
 use Rattle.sessions.specs.declared.sessions.Found.{Found}
 use Rattle.sessions.specs.declared.sessions.Found.the-variants.{Nothing, Got}
 use Rattle.sessions.specs.declared.sessions.Sessions.{Sessions}
-use Rattle.session.specs.Index.{slotIn}
-use Rattle.session.specs.Store.{slotOf}
+use Rattle.session.specs.Index.{slotOf}
+use Rattle.session.specs.Store.{slotWords}
 use Rattle.session.specs.Session.{expiredAt}
 use Rattle.sessions.specs.Sessions.{caseFound, slotAt, inSlotOf, get, put}
 use Rattle.sessions.specs.Batch.{fits, accepting, finish, finishWords, Batch, finishAll, started, batchOf, withProgress, receivingSession, Outcome, refused, untouched, answered, committedTo, commit, receive}
@@ -29,23 +29,23 @@ use Rattle.sessions.proofs.Apart.{kept-same, kept-other, kept-insert, k
 nothing-got : {A : Type 0} (x : Session) → Nothing ≡ Got x → A
 nothing-got x e = absurd (let z : _≡_ {A = ℕ} 0 1 = cc in omega arith)
 
-got-same : (x y : Session) → Got x ≡ Got y → x ≡ y
+pub got-same : (x y : Session) → Got x ≡ Got y → x ≡ y
 got-same x y e = cc
 
 -- a session chosen under a test: it is the one, and the test held
-chosen : (b : Bool) (x y : Session) → choose b (Got x) Nothing ≡ Got y → (b ≡ true) × (x ≡ y)
+pub chosen : (b : Bool) (x y : Session) → choose b (Got x) Nothing ≡ Got y → (b ≡ true) × (x ≡ y)
 unfolding choose
 chosen true x y e = (refl, got-same x y e)
 chosen false x y e = nothing-got y e
 
 -- what a lookup found
 pub record InSlot (s : Sessions) (index : ℕ) (x : Session) : Type 0 where
-  pub stored : x ≡ slotAt s (slotIn index)
+  pub stored : x ≡ slotAt s (slotOf index)
   pub named : x .«receiving_index» ≡ index
 
-got-slot : (s : Sessions) (index : ℕ) (x : Session) → inSlotOf s index ≡ Got x → x ≡ slotAt s (slotIn index)
+got-slot : (s : Sessions) (index : ℕ) (x : Session) → inSlotOf s index ≡ Got x → x ≡ slotAt s (slotOf index)
 unfolding inSlotOf
-got-slot s index x e = sym (chosen (slotAt s (slotIn index) .filled) (slotAt s (slotIn index)) x e .1)
+got-slot s index x e = sym (chosen (slotAt s (slotOf index) .filled) (slotAt s (slotOf index)) x e .1)
 
 got-index : (s : Sessions) (index : ℕ) (x : Session) → get s index ≡ Got x → InSlot s index x
 unfolding get caseFound
@@ -149,7 +149,7 @@ progress-next x p = go (p .«data») refl
 
 -- the slots after a batch was committed to a session
 pub committed-slots : (s : Sessions) (store : List ℕ) (x : Session) (b : Batch)
-    → committedTo s store x b .received .sessions .slots ≡ set (s .slots) (slotIn (x .«receiving_index»)) (withProgress x (b .progress))
+    → committedTo s store x b .received .sessions .slots ≡ set (s .slots) (slotOf (x .«receiving_index»)) (withProgress x (b .progress))
 unfolding answered put
 committed-slots s store x b = rw (progress-index x (b .progress))
 
@@ -162,12 +162,12 @@ module _ (s : Sessions) (store : List ℕ) (slot : ℕ) where
   unfolding refused
   kept-refused verdicts number = kept-same s store slot
 
-  module _ (index id now : ℕ) (d : slot ≡ slotIn index → ⊥) (counters kinds verdicts : List ℕ) where
+  module _ (index id now : ℕ) (d : slot ≡ slotOf index → ⊥) (counters kinds verdicts : List ℕ) where
     kept-committed : length store ≡ 1024 → (x : Session) → InSlot s index x → KeptBy s store slot (committedTo s store x (batchOf store x counters kinds))
     kept-committed l x i =
-        let other : slot ≡ slotIn (x .«receiving_index») → ⊥ = λ q. d (q ∙ ap slotIn (i .named)) in
+        let other : slot ≡ slotOf (x .«receiving_index») → ⊥ = λ q. d (q ∙ ap slotOf (i .named)) in
         kept-other s store l slot (x .«receiving_index» % 8) (omega arith) other _ (withProgress x (batchOf store x counters kinds .progress)) (batchOf store x counters kinds .words)
-        (length-batch (slotOf store (slotIn (x .«receiving_index»))) (started x) counters kinds ∙ slot-long store (x .«receiving_index» % 8) l (omega arith))
+        (length-batch (slotWords store (slotOf (x .«receiving_index»))) (started x) counters kinds ∙ slot-long store (x .«receiving_index» % 8) l (omega arith))
         (committed-slots s store x (batchOf store x counters kinds))
 
     kept-commit : length store ≡ 1024 → KeptBy s store slot (commit s store index id now counters kinds verdicts)
@@ -178,7 +178,7 @@ module _ (s : Sessions) (store : List ℕ) (slot : ℕ) where
         go Nothing e = rw e (kept-refused verdicts 12)
         go (Got x) e = rw e (kept-committed l x (receiving-slot s index id now x e))
 
-    pub kept-receive : KeptBy s store slot (receive s store index id now counters kinds verdicts)
+    kept-receive : KeptBy s store slot (receive s store index id now counters kinds verdicts)
     unfolding receive choose
     kept-receive = go (eqb (length store) 1024) (fits counters kinds verdicts) refl refl
       where

@@ -17,7 +17,7 @@ use Rattle.sessions.specs.declared.sessions.Expired.{Expired}
 use Rattle.session.specs.Index.{wrappingIncrement}
 use Rattle.session.specs.Store.{putSlot, zeros, missingOf, Leaves}
 use Rattle.session.specs.Session.{withId, emptySession}
-use Rattle.sessions.specs.Sessions.{caseFound, ring, withSlots, withCurrent, withLastIndex, withInserted, slotAt, emptySlots, newSessions, get, put, inCurrentSlot, indexAfter, nextIndex, inserting, insert, isIndex, clear, emptied, expiredSlot, discard, expireSlot, Expires, expire, missing}
+use Rattle.sessions.specs.Sessions.{expiring, caseFound, ring, withSlots, withCurrent, withLastIndex, withInserted, slotAt, emptySlots, newSessions, get, put, inCurrentSlot, indexAfter, nextIndex, inserting, insert, isIndex, clear, emptied, expiredSlot, discard, expireSlot, expire, missing}
 use Rattle.session.proofs.Words.{part-is}
 
 -- eight empty slots
@@ -97,10 +97,11 @@ module _ (e : Expired) (slot : ℕ) (f : Bool) (rest : Sessions) (p : rest ≡ e
   discarded-other t = rw (← q, t, p)
 
 module _ (e : Expired) (store : List ℕ) (slot now : ℕ) (f : Bool) (q : f ≡ expiredSlot (e .sessions) slot now) where
-  pub slot-due : (left : List ℕ) (last : Expired) → f ≡ true → left ≡ putSlot store slot (zeros 128) → last ≡ discard e slot → Expires e store slot now last left
+  pub slot-due : (left : List ℕ) (last : Expired) → f ≡ true → left ≡ putSlot store slot (zeros 128) → last ≡ discard e slot
+      → Leaves last (expireSlot (expiring e store) slot now .expired) left (expireSlot (expiring e store) slot now .store)
   unfolding expireSlot choose
   slot-due left last t w d = record { out = rw (← q, t) d; words = rw (← q, t) w }
 
-  pub slot-kept : f ≡ false → Expires e store slot now e store
+  pub slot-kept : f ≡ false → Leaves e (expireSlot (expiring e store) slot now .expired) store (expireSlot (expiring e store) slot now .store)
   unfolding expireSlot choose
   slot-kept t = record { out = rw (← q, t); words = rw (← q, t) }

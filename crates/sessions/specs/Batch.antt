@@ -7,8 +7,8 @@ use lib.Dec.{ltb, eqb}
 use lib.ListN.{length, getD, set}
 use Rattle.base.specs.Choice.{choose}
 use Rattle.window.specs.Window.{willAccept, nextAfter, wordsAfter}
-use Rattle.session.specs.Index.{slotIn}
-use Rattle.session.specs.Store.{whole, slotOf, putSlot}
+use Rattle.session.specs.Index.{slotOf}
+use Rattle.session.specs.Store.{whole, slotWords, putSlot}
 use Rattle.session.specs.Session.{withReceivedData, withNext, expiredAt}
 use Rattle.sessions.specs.Sessions.{caseFound, get, put}
 use Rattle.sessions.specs.declared.batch.Progress.{Progress}
@@ -83,7 +83,7 @@ started session = record { next = session .next; accepted = false; «data» = fa
 -- the batch that a session makes of the messages
 abbrev pub batchOf : List ℕ → Session → (counters kinds : List ℕ) → Batch
 batchOf store session counters kinds =
-    finishAll (slotOf store (slotIn (session .«receiving_index»))) (started session) counters kinds
+    finishAll (slotWords store (slotOf (session .«receiving_index»))) (started session) counters kinds
 
 -- a whole store and lists of one length
 pub record Ready (store counters kinds verdicts : List ℕ) : Type 0 where
@@ -94,7 +94,7 @@ pub record Ready (store counters kinds verdicts : List ℕ) : Type 0 where
 -- what a batch over a session's slot hands back
 pub record FinishesSlot (store : List ℕ) (session : Session) (counters kinds : List ℕ) (answer : Progress) (left verdicts : List ℕ) : Type 0 where
   pub out : answer ≡ batchOf store session counters kinds .progress
-  pub words : left ≡ putSlot store (slotIn (session .«receiving_index»)) (batchOf store session counters kinds .words)
+  pub words : left ≡ putSlot store (slotOf (session .«receiving_index»)) (batchOf store session counters kinds .words)
   pub list : verdicts ≡ batchOf store session counters kinds .verdicts
 
 -- the session after a batch
@@ -137,7 +137,7 @@ abbrev pub committedTo : Sessions → List ℕ → Session → Batch → Outcome
 committedTo s store session b =
     record {
       received = answered s session (b .progress);
-      store = putSlot store (slotIn (session .«receiving_index»)) (b .words);
+      store = putSlot store (slotOf (session .«receiving_index»)) (b .words);
       verdicts = b .verdicts;
     }
 

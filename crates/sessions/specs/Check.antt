@@ -4,7 +4,7 @@ use Prim.Native.Nat.{ℕ, zero, suc}
 use lib.Dec.{leb, eqb}
 use Rattle.base.specs.Choice.{choose, _and_}
 use Rattle.session.specs.Session.{rejectAfterMessages}
-use Rattle.session.specs.Index.{slotIn}
+use Rattle.session.specs.Index.{slotOf}
 use Rattle.session.specs.declared.session.Session.{Session}
 use Rattle.sessions.specs.Sessions.{slotAt}
 use Rattle.sessions.specs.declared.sessions.Sessions.{Sessions}
@@ -14,10 +14,10 @@ unfoldable pub slotHolds : Session → (slot greatest : ℕ) → Bool
 slotHolds s slot greatest =
     choose (s .filled)
     (leb (s .«established_at») greatest and leb (s .«sending_key_counter») rejectAfterMessages and leb (s .next) rejectAfterMessages
-    and eqb (slotIn (s .«receiving_index»)) slot)
+    and eqb (slotOf (s .«receiving_index»)) slot)
     true
 
--- so many slots hold
+-- the first slots hold
 unfoldable pub slotsHold : Sessions → (count greatest : ℕ) → Bool
 slotsHold s zero greatest = true
 slotsHold s (suc count) greatest = slotsHold s count greatest and slotHolds (slotAt s count) count greatest

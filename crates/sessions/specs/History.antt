@@ -11,8 +11,8 @@ use Rattle.window.specs.History.{member, expected, judged, amongLast, Represent
 use Rattle.session.specs.declared.session.Session.{Session}
 use Rattle.sessions.specs.declared.sessions.Found.the-variants.{Got}
 use Rattle.sessions.specs.declared.sessions.Sessions.{Sessions}
-use Rattle.session.specs.Index.{slotIn}
-use Rattle.session.specs.Store.{slotOf, missingOf}
+use Rattle.session.specs.Index.{slotOf}
+use Rattle.session.specs.Store.{slotWords, missingOf}
 use Rattle.sessions.specs.Sessions.{slotAt, insert}
 use Rattle.sessions.specs.Batch.{fits, receivingSession, Outcome, receive}
 
@@ -39,7 +39,7 @@ verdictsOn history (counter ∷ counters) (kind ∷ kinds) =
 
 -- a session's slot stands for a history: its words, and its record's next expected counter
 abbrev pub Stands : List ℕ → Sessions → List ℕ → ℕ → Type 0
-Stands history s store slot = Represents history (slotOf store slot) (slotAt s slot .next)
+Stands history s store slot = Represents history (slotWords store slot) (slotAt s slot .next)
 
 -- Verdict 0 is for a message that opened, whose counter is below LIMIT, at most 8,192 behind the next expected one and not in the history, and for no other.
 pub record VerdictLaw (history : List ℕ) (counter kind : ℕ) : Type 0 where
@@ -69,17 +69,17 @@ pub record Live (c : Call) (session : Session) (history : List ℕ) : Type 0 whe
   pub size : length (c .store) ≡ 1024
   pub batch : fits (c .counters) (c .kinds) (c .verdicts) ≡ true
   pub found : receivingSession (c .sessions) (c .index) (c .id) (c .now) ≡ Got session
-  pub stands : Stands history (c .sessions) (c .store) (slotIn (c .index))
+  pub stands : Stands history (c .sessions) (c .store) (slotOf (c .index))
 
 -- Such a call is not turned down, its verdicts are those that the history calls for, and then the slot stands for the history with the counters given verdict 0.
 pub record BatchLaw (c : Call) (history : List ℕ) : Type 0 where
   pub number : outcome c .received .number ≡ 0
   pub judges : outcome c .verdicts ≡ verdictsOn history (c .counters) (c .kinds)
-  pub stands : Stands (recordedAll history (c .counters) (outcome c .verdicts)) (outcome c .received .sessions) (outcome c .store) (slotIn (c .index))
+  pub stands : Stands (recordedAll history (c .counters) (outcome c .verdicts)) (outcome c .received .sessions) (outcome c .store) (slotOf (c .index))
 
 -- A session just inserted with next 0 stands for the empty history.
 pub record FreshLaw (s : Sessions) (store : List ℕ) (session : Session) : Type 0 where
-  pub stands : Stands [] (insert s store session .sessions) (insert s store session .store) (slotIn (session .«receiving_index»))
+  pub stands : Stands [] (insert s store session .sessions) (insert s store session .store) (slotOf (session .«receiving_index»))
 
 -- The missing count of a slot that stands for a history is 8,192 less the history's counters among the last 8,192.
 pub record MissingLaw (history words : List ℕ) : Type 0 where

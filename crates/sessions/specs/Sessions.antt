@@ -7,8 +7,8 @@ use lib.Dec.{ltb, eqb}
 use lib.ListN.{getD, set, replicate}
 use Rattle.base.specs.Choice.{choose}
 use Rattle.base.specs.First.{noneOf}
-use Rattle.session.specs.Index.{slotIn, wrappingIncrement}
-use Rattle.session.specs.Store.{whole, slotOf, putSlot, zeros, missingOf}
+use Rattle.session.specs.Index.{slotOf, wrappingIncrement}
+use Rattle.session.specs.Store.{whole, slotWords, putSlot, zeros, missingOf}
 use Rattle.session.specs.Session.{timeLimit, caseRole, earlier, withId, emptySession, expiresAt, expiredAt, shouldUseAt, sendingCounterExhausted}
 use Rattle.session.specs.declared.session.Time.{Time}
 use Rattle.session.specs.declared.session.Time.the-variants.{Never, At}
@@ -78,7 +78,7 @@ newSessions index = ring emptySlots Unset index 0
 
 -- the session in the slot of an index
 unfoldable pub inSlotOf : Sessions → ℕ → Found
-inSlotOf s index = choose (slotAt s (slotIn index) .filled) (Got (slotAt s (slotIn index))) Nothing
+inSlotOf s index = choose (slotAt s (slotOf index) .filled) (Got (slotAt s (slotOf index))) Nothing
 
 -- the session with exactly this index
 unfoldable pub get : Sessions → ℕ → Found
@@ -86,7 +86,7 @@ get s index = caseFound (inSlotOf s index) Nothing (λ session. choose (eqb (ses
 
 -- the sessions with one put into the slot of its local index
 unfoldable pub put : Sessions → Session → Sessions
-put s session = withSlots s (set (s .slots) (slotIn (session .«receiving_index»)) session)
+put s session = withSlots s (set (s .slots) (slotOf (session .«receiving_index»)) session)
 
 -- the current sending session
 unfoldable pub currentOf : Sessions → Found
@@ -94,7 +94,7 @@ currentOf s = caseSelected (s .current) Nothing (λ index. get s index)
 
 -- whether an index has the current session's slot
 unfoldable pub inCurrentSlot : Sessions → ℕ → Bool
-inCurrentSlot s index = caseFound (currentOf s) false (λ session. eqb (slotIn (session .«receiving_index»)) (slotIn index))
+inCurrentSlot s index = caseFound (currentOf s) false (λ session. eqb (slotOf (session .«receiving_index»)) (slotOf index))
 
 -- the number allocated: the following one, or the one after it where that has the current session's slot
 unfoldable pub indexAfter : Sessions → ℕ
@@ -115,10 +115,10 @@ inserting s session = withInserted (put s (withId session (s .inserted))) ((s .i
 unfoldable pub insert : Sessions → List ℕ → Session → Held
 insert s store session =
     choose (whole store)
-    (record { sessions = inserting s session; store = putSlot store (slotIn (session .«receiving_index»)) (zeros 128) })
+    (record { sessions = inserting s session; store = putSlot store (slotOf (session .«receiving_index»)) (zeros 128) })
     (record { sessions = s; store = store })
 
--- a session that has counters and time left, if it is usable for sending
+-- a session neither exhausted nor expired, if it may send: at an age above 170 s only a responder's
 unfoldable pub usable : Session → ℕ → Found
 usable session now = choose (shouldUseAt session now) (Got session) (caseRole (session .role) Nothing (Got session))
 
@@ -167,6 +167,10 @@ pub record Expiring : Type 0 where
   pub expired : Expired
   pub store : List ℕ
 
+-- an expiry that has come to this
+abbrev pub expiring : Expired → List ℕ → Expiring
+expiring e store = record { expired = e; store = store }
+
 -- a slot's session discarded; the current one is kept for the answer, and is current no more
 unfoldable pub discard : Expired → ℕ → Expired
 discard e slot =
@@ -178,13 +182,8 @@ discard e slot =
 unfoldable pub expireSlot : Expiring → ℕ → ℕ → Expiring
 expireSlot e slot now =
     choose (expiredSlot (e .expired .sessions) slot now)
-    (record { expired = discard (e .expired) slot; store = putSlot (e .store) slot (zeros 128) })
+    (expiring (discard (e .expired) slot) (putSlot (e .store) slot (zeros 128)))
     e
-
--- what an expiry has come to after a slot
-pub record Expires (e : Expired) (store : List ℕ) (slot now : ℕ) (answer : Expired) (left : List ℕ) : Type 0 where
-  pub out : answer ≡ expireSlot (record { expired = e; store = store }) slot now .expired
-  pub words : left ≡ expireSlot (record { expired = e; store = store }) slot now .store
 
 -- the first slots gone through in order
 unfoldable pub expireFirst : Expiring → (count now : ℕ) → Expiring
@@ -195,8 +194,8 @@ expireFirst e (suc count) now = expireSlot (expireFirst e count now) count now
 unfoldable pub expire : Sessions → List ℕ → ℕ → Expiring
 expire s store now =
     choose (whole store)
-    (expireFirst (record { expired = record { sessions = s; current = Nothing }; store = store }) 8 now)
-    (record { expired = record { sessions = s; current = Nothing }; store = store })
+    (expireFirst (expiring (record { sessions = s; current = Nothing }) store) 8 now)
+    (expiring (record { sessions = s; current = Nothing }) store)
 
 -- whether no session is stored
 abbrev pub isEmpty : Sessions → Bool
@@ -223,5 +222,5 @@ nextExpiry s = firstExpiry s 8
 unfoldable pub missing : Sessions → List ℕ → ℕ → Missing
 missing s store index =
     choose (whole store)
-    (caseFound (get s index) (Refused 12) (λ session. Count (missingOf (slotOf store (slotIn (session .«receiving_index»))))))
+    (caseFound (get s index) (Refused 12) (λ session. Count (missingOf (slotWords store (slotOf (session .«receiving_index»))))))
     (Refused 2)

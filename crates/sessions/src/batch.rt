@@ -53,7 +53,7 @@ fn known_after(before: bool, kind: u8) -> bool
     before
 }
 
-// Whether every kind is one of the three. Every kind is looked at, so that many can be at once.
+// Whether every kind is one of the three. The loop has no early exit, so that many kinds can be tested at once.
 fn known(kinds: &[u8]) -> bool
     ensures { λ r. ⌜ r ≡ known (now (kinds .entry)) ⌝ }
 {
@@ -136,7 +136,7 @@ fn started(session: Session) -> Progress
 }
 
 // Commits the message at a place of the lists to a window's words, and puts its verdict at that place. The progress is handed back
-// field by field, without the bytes between them.
+// field by field, without the padding between them.
 fn finish_at(
     words: &mut [u64],
     progress: Progress,

@@ -11,7 +11,7 @@ ghost use mathlib.Core.Path.{_≡_};
 ghost use Prim.Native.Nat.{_<_};
 ghost use lib.ListN.{length};
 ghost use Rattle.session.specs.Store.{Leaves};
-ghost use Rattle.sessions.specs.Sessions.{TimesWithin, newSessions, inSlotOf, get, put, currentOf, inCurrentSlot, nextIndex, insert, usable, sendingSession, isIndex, select, setCurrent, clear, emptied, expiredSlot, noneExpired, discard, Expires, expire, isEmpty, slotExpiry, nextExpiry, missing};
+ghost use Rattle.sessions.specs.Sessions.{TimesWithin, newSessions, inSlotOf, get, put, currentOf, inCurrentSlot, nextIndex, insert, usable, sendingSession, isIndex, select, setCurrent, clear, emptied, expiredSlot, noneExpired, discard, expiring, expireSlot, expire, isEmpty, slotExpiry, nextExpiry, missing};
 
 // What a lookup answers.
 pub enum Found {
@@ -63,7 +63,7 @@ fn is_index(selected: Selected, index: u32) -> bool
     }
 }
 
-// A session that has counters and time left, if it is usable for sending.
+// A session neither exhausted nor expired, if it may send: at an age above 170 s only a responder's.
 fn usable(session: Session, now: u64) -> Found
     ensures { λ r. ⌜ r ≡ usable session now ⌝ }
 {
@@ -366,7 +366,7 @@ impl Expired {
     // Discards the session of one slot if it is past `REJECT_AFTER_TIME`.
     fn expire_slot(self, store: &mut [u64], slot: usize, now: u64) -> Expired
         requires { ⌜ (length (store .now) ≡ 1024) × (slot < 8) ⌝ }
-        ensures { λ r. ⌜ Expires self (store .entry .now) slot now r (store .exit .now) ⌝ }
+        ensures { λ r. ⌜ Leaves r (expireSlot (expiring self (store .entry .now)) slot now .expired) (store .exit .now) (expireSlot (expiring self (store .entry .now)) slot now .store) ⌝ }
     {
         let sessions = self.sessions;
         if sessions.expired_slot(slot, now) {

@@ -31,7 +31,7 @@ pub facts-of-undamaged : FactsOfUndamaged
 facts-of-undamaged = record { facts = undamaged-facts; holds = undamaged-holds }
 
 -- the control of a tunnel that number 14 lets through, below the limit of times
-pub within-limit : (t : Tunnel) → Undamaged t → ControlWithin (t .control) timeLimit
+within-limit : (t : Tunnel) → Undamaged t → ControlWithin (t .control) timeLimit
 within-limit t w = control-later (t .greatest) timeLimit (w .latest) (t .control) (w .control)
 
 -- the same where the code has made the test

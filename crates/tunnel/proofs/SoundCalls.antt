@@ -68,7 +68,7 @@ module _ (t : Tunnel) (s : Sound t) where
       let f : Undamaged t = undamaged-facts t (s .holds) in
       rw (o .unraised, o .unticked) (tunnel-sound _ (f .latest) (f .updated) (o .sound))
 
-  pub timed-sound : (bad : Bool) (now : ℕ) (out : Out) → (bad ≡ false → t .greatest ≤ now → SoundOut out (t .greatest) now)
+  timed-sound : (bad : Bool) (now : ℕ) (out : Out) → (bad ≡ false → t .greatest ≤ now → SoundOut out (t .greatest) now)
       → Sound (timed t bad now out .tunnel)
   unfolding timed refused
   timed-sound bad now out o =
@@ -85,7 +85,7 @@ module _ (t : Tunnel) (s : Sound t) where
       known-choice (λ (y : Answered). Sound (y .tunnel)) (eqb (timelessGate t bad) 0) _ _ (λ e. unsettled-sound out o) (λ e. s)
 
 -- a store that comes with a good outcome
-full-store : (wrong full : Bool) → choose wrong true (choose full false true) ≡ false → full ≡ true
+pub full-store : (wrong full : Bool) → choose wrong true (choose full false true) ≡ false → full ≡ true
 unfolding choose
 full-store true full e = absurd (true≢false e)
 full-store false true e = refl

@@ -28,7 +28,7 @@ use Rattle.sessions.specs.declared.sessions.Found.the-variants.{Nothing, Got}
 use Rattle.sessions.specs.declared.sessions.Found.{Found}
 use Rattle.sessions.specs.declared.sessions.Sessions.{Sessions}
 use Rattle.waking.specs.Quiet.{Early, QuietLaw}
-use Rattle.waking.specs.Waking.{inner, keepaliveDue, keepalives, rekeyDue, wakeIdle, wakeInProgress, wakeLater, wakeRest, wakeCurrent, wakeSessions, wake}
+use Rattle.waking.specs.Waking.{inner, keepaliveDue, keepaliveIfDue, rekeyDue, wakeIdle, wakeInProgress, wakeLater, wakeRest, wakeCurrent, wakeSessions, wake}
 
 -- a value picked by a test that fails
 module _ {A : Type 0} where
@@ -92,8 +92,8 @@ module _ (c : Control) (now : ℕ) where
   ]
 
   -- no keepalive is queued
-  no-keepalives : Early c now → dueBy (keepaliveDeadline c) now ≡ false → keepalives c now ≡ c
-  unfolding keepaliveDeadline keepaliveDue keepalives
+  no-keepalives : Early c now → dueBy (keepaliveDeadline c) now ≡ false → keepaliveIfDue c now ≡ c
+  unfolding keepaliveDeadline keepaliveDue keepaliveIfDue
   no-keepalives h p =
       let n = neither (passiveDeadline c) (currentPersistentDeadline c) now p in
       otherwise _ _ _ c (otherwise _ _ _ false (n .first) (persistent-waits h (n .second))) refl

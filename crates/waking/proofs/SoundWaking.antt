@@ -19,7 +19,7 @@ use Rattle.parts.specs.declared.event.Event.the-variants.{SendHandshakeInitiati
 use Rattle.parts.specs.declared.handshake.Handshake.{Handshake}
 use Rattle.parts.specs.declared.timers.Timers.{Timers}
 use Rattle.waking.proofs.Wakings.{WakingKeeps, of-wake}
-use Rattle.waking.specs.Waking.{clearAll, expireControl, scheduling, queueKeepalive, passiveTimers, keepaliveTimers, sendKeepalive, keepalives, sendScheduled, wake, handleTimeout}
+use Rattle.waking.specs.Waking.{clearAll, expireControl, scheduling, queueKeepalive, passiveTimers, keepaliveTimers, sendKeepalive, keepaliveIfDue, sendScheduled, wake, handleTimeout}
 
 module _ (most now : ℕ) (h : now ≤ most) where
   -- the keepalives that are due queued, the scheduled handshake sent, the cookie dropped, the connection ended
@@ -38,8 +38,8 @@ module _ (most now : ℕ) (h : now ≤ most) where
   within-keepalives c w =
       of-choice (λ (t : Timers). TimersWithin t most) _ _ _ (on-kept (passiveTimers c now) most now (within-passive c w) h) (within-passive c w)
 
-  sound-keepalives : (c : Control) → SoundControl c most → SoundControl (keepalives c now) most
-  unfolding keepalives sendKeepalive
+  sound-keepalives : (c : Control) → SoundControl c most → SoundControl (keepaliveIfDue c now) most
+  unfolding keepaliveIfDue sendKeepalive
   sound-keepalives c w =
       of-choice (λ (y : Control). SoundControl y most) _ _ _ (sound-keepalive _ (sound-timers c most w _ (within-keepalives c (w .within .timers)))) w
 
@@ -84,7 +84,7 @@ module _ (most now : ℕ) (h : now ≤ most) where
         expires = λ c store w. sound-sessions c most w _ (expire-sound most (c .sessions) store now (its-sessions c most w));
       }
 
-  pub sound-wake : (jitter : ℕ) → jitter ≤ maxJitter → (c : Control) (store : List ℕ) → SoundControl c most → SoundControl (wake c store jitter now .control) most
+  sound-wake : (jitter : ℕ) → jitter ≤ maxJitter → (c : Control) (store : List ℕ) → SoundControl c most → SoundControl (wake c store jitter now .control) most
   sound-wake jitter j c store w = of-wake (λ (x : Control) (y : List ℕ). SoundControl x most) jitter now (sound-kept jitter j) c store w
 
 -- the waking as a call sees it

@@ -4,7 +4,7 @@ use mathlib.Core.Bool.{Bool, false}
 use mathlib.Core.List.{List}
 use Prim.Native.Nat.{ℕ}
 use Rattle.control.proofs.Steps.{of-choice, of-found}
-use Rattle.control.specs.Control.{Inner, withHandshake, withSessions}
+use Rattle.control.specs.Control.{withHandshake, withSessions}
 use Rattle.control.specs.declared.control.Control.{Control}
 use Rattle.parts.specs.Handshake.{expireCookie}
 use Rattle.session.specs.Session.{caseTime}
@@ -12,13 +12,13 @@ use Rattle.sessions.specs.Sessions.{expire}
 use Rattle.session.specs.declared.session.Time.the-variants.{Never, At}
 use Rattle.session.specs.declared.session.Time.{Time}
 use Rattle.sessions.specs.declared.sessions.Found.{Found}
-use Rattle.waking.specs.Waking.{expireControl, scheduling, keepalives, wakeIdle, wakeInProgress, wakeLater, wakeRest, wakeCurrent, wakeSessions, sendScheduled, wake}
+use Rattle.waking.specs.Waking.{Inner, expireControl, scheduling, keepaliveIfDue, wakeIdle, wakeInProgress, wakeLater, wakeRest, wakeCurrent, wakeSessions, sendScheduled, wake}
 
 -- the steps of a waking keep what is said of a control and its store
 pub record WakingKeeps (P : Control → List ℕ → Type 0) (jitter now : ℕ) : Type 0 where
   pub sends : (c : Control) (store : List ℕ) → P c store → P (sendScheduled c now) store
   pub schedules : (c : Control) (store : List ℕ) → P c store → P (scheduling c jitter now) store
-  pub keeps-alive : (c : Control) (store : List ℕ) → P c store → P (keepalives c now) store
+  pub keeps-alive : (c : Control) (store : List ℕ) → P c store → P (keepaliveIfDue c now) store
   pub drops : (c : Control) (store : List ℕ) → P c store → P (withHandshake c (expireCookie (c .handshake) now)) store
   pub ends : (c : Control) (store : List ℕ) → P c store → P (expireControl c store now .control) (expireControl c store now .store)
   pub expires : (c : Control) (store : List ℕ) → P c store

@@ -5,7 +5,7 @@ use mathlib.Core.Bool.{Bool, true, false}
 use mathlib.Core.List.{List}
 use Prim.Native.Nat.{ℕ, _+_}
 use Rattle.base.specs.Choice.{choose}
-use Rattle.control.specs.Control.{Inner, withHandshake, withSessions, withTimers, withEvents, outcome, done, expiredControl, queueing}
+use Rattle.control.specs.Control.{withHandshake, withSessions, withTimers, withEvents, outcome, done, expiredControl, queueing}
 use Rattle.control.specs.Deadlines.{scheduledHandshake, rejectDeadline, attemptDeadline, handshakeRekeyTimeout, foundOnSend, foundAfterMessages, foundOnReceive, responseDeadline, passiveDeadline, persistentDeadline}
 use Rattle.control.specs.Messages.{initiate}
 use Rattle.control.specs.Transport.{caseDatagram, encryptKeepalive}
@@ -33,7 +33,7 @@ use Rattle.sessions.specs.declared.sessions.Expired.{Expired}
 use Rattle.sessions.specs.declared.sessions.Found.the-variants.{Nothing, Got}
 use Rattle.sessions.specs.declared.sessions.Found.{Found}
 use Rattle.sessions.specs.declared.sessions.Sessions.{Sessions}
-use Rattle.waking.specs.Waking.{clearAll, expireControl, scheduling, queueKeepalive, keepaliveDue, passiveTimers, keepaliveTimers, sendKeepalive, keepalives, rekeyDue, wakeIdle, wakeInProgress, wakeLater, wakeRest, isLost, isReplaced, wakeCurrent, wakeSessions, sendScheduled, wake, handleTimeout}
+use Rattle.waking.specs.Waking.{Inner, clearAll, expireControl, scheduling, queueKeepalive, keepaliveDue, passiveTimers, keepaliveTimers, sendKeepalive, keepaliveIfDue, rekeyDue, wakeIdle, wakeInProgress, wakeLater, wakeRest, isLost, isReplaced, wakeCurrent, wakeSessions, sendScheduled, wake, handleTimeout}
 
 -- a handshake scheduled
 chain-scheduled : (c : Control) (jitter now : ℕ) (t : Timers) → t ≡ scheduleHandshake (c .timers) (now + jitter) → withTimers c t ≡ scheduling c jitter now
@@ -119,12 +119,12 @@ sent-keepalive c out now t p o = rw (← p) o
 
 -- the keepalives, where one is due and where none is
 module _ (c : Control) (now : ℕ) where
-  keepalives-due : keepaliveDue c now ≡ true → sendKeepalive c now ≡ keepalives c now
-  unfolding keepalives choose
+  keepalives-due : keepaliveDue c now ≡ true → sendKeepalive c now ≡ keepaliveIfDue c now
+  unfolding keepaliveIfDue choose
   keepalives-due d = rw d
 
-  keepalives-none : keepaliveDue c now ≡ false → c ≡ keepalives c now
-  unfolding keepalives choose
+  keepalives-none : keepaliveDue c now ≡ false → c ≡ keepaliveIfDue c now
+  unfolding keepaliveIfDue choose
   keepalives-none d = rw d
 
 -- a handshake is required for the first, the second or the third reason, or by the fourth alone
@@ -179,9 +179,9 @@ module _ (c : Control) (required : Bool) (jitter now : ℕ) (out : Control) wher
   unfolding wakeIdle choose
   idle-rekeyed n y o = rw (n, y) o
 
-  idle-kept : required ≡ false → rekeyDue c now ≡ false → out ≡ keepalives c now → out ≡ wakeIdle c required jitter now
+  idle-keepalive : required ≡ false → rekeyDue c now ≡ false → out ≡ keepaliveIfDue c now → out ≡ wakeIdle c required jitter now
   unfolding wakeIdle choose
-  idle-kept n m o = rw (n, m) o
+  idle-keepalive n m o = rw (n, m) o
 
 -- the connection expires for want of a handshake; no initiation awaits a response, or one does
 module _ (c : Control) (store : List ℕ) (required : Bool) (jitter now : ℕ) (flag : Bool) (at : Time) (a : at ≡ rejectDeadline c) (f : flag ≡ dueBy at now) where
@@ -228,11 +228,11 @@ module _ (c : Control) (h : Handshake) (store : List ℕ) (required : Bool) (jit
             idle _ (idle-rekeyed (withHandshake c h) required jitter now _ k (sym d ∙ y) (chain-scheduled (withHandshake c h) jitter now t p))
 
         module _ (z : due ≡ false) (keeps : Bool) (s : keeps ≡ keepaliveDue (withHandshake c h) now) where
-          kept : (out : Control) → out ≡ keepalives (withHandshake c h) now → Makes out store (wakeRest c store required jitter now)
-          kept out o = idle out (idle-kept (withHandshake c h) required jitter now out k (sym d ∙ z) o)
+          kept : (out : Control) → out ≡ keepaliveIfDue (withHandshake c h) now → Makes out store (wakeRest c store required jitter now)
+          kept out o = idle out (idle-keepalive (withHandshake c h) required jitter now out k (sym d ∙ z) o)
 
-          pub rest-kept : (out : Control) → keeps ≡ true → out ≡ sendKeepalive (withHandshake c h) now → Makes out store (wakeRest c store required jitter now)
-          rest-kept out y o = kept out (o ∙ keepalives-due (withHandshake c h) now (sym s ∙ y))
+          pub rest-keepalive : (out : Control) → keeps ≡ true → out ≡ sendKeepalive (withHandshake c h) now → Makes out store (wakeRest c store required jitter now)
+          rest-keepalive out y o = kept out (o ∙ keepalives-due (withHandshake c h) now (sym s ∙ y))
 
           pub rest-quiet : keeps ≡ false → Makes (withHandshake c h) store (wakeRest c store required jitter now)
           rest-quiet y = kept (withHandshake c h) (keepalives-none (withHandshake c h) now (sym s ∙ y))
@@ -254,9 +254,9 @@ module _ (c : Control) (h : Handshake) (store : List ℕ) (required : Bool) (jit
             progress _ store (progress-retried (withHandshake c h) store required jitter now given until u g k retried retry b r _ y
             (chain-scheduled (withHandshake c h) jitter now t p))
 
-        pub rest-awaited : (t : Timers) → retried ≡ false → required ≡ true → t ≡ scheduleHandshake (c .timers) (now + jitter)
+        pub rest-asked : (t : Timers) → retried ≡ false → required ≡ true → t ≡ scheduleHandshake (c .timers) (now + jitter)
             → Makes (withTimers (withHandshake c h) t) store (wakeRest c store required jitter now)
-        rest-awaited t x y p =
+        rest-asked t x y p =
             progress _ store (progress-required (withHandshake c h) store required jitter now given until u g k retried retry b r _ x y
             (chain-scheduled (withHandshake c h) jitter now t p))
 

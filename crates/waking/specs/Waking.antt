@@ -1,9 +1,9 @@
--- The waking, after `handle_timeout` of src/tunnel.rs, in the Rust's order of tests.
+-- The waking, after `handle_timeout` of src/tunnel.rs, in the Rust's order of tests, save that a handshake already required skips the four tests of rekeying.
 use mathlib.Core.Bool.{Bool, true, false}
 use mathlib.Core.List.{List}
 use Prim.Native.Nat.{ℕ, _+_}
 use Rattle.base.specs.Choice.{choose}
-use Rattle.control.specs.Control.{Inner, Turn, withHandshake, withSessions, withTimers, outcome, done, expiredControl, queueing}
+use Rattle.control.specs.Control.{Turn, withHandshake, withSessions, withTimers, outcome, done, expiredControl, queueing}
 use Rattle.control.specs.Deadlines.{scheduledHandshake, rejectDeadline, attemptDeadline, handshakeRekeyTimeout, rekeyOnSend, rekeyAfterMessages, rekeyOnReceive, responseDeadline, passiveDeadline, persistentDeadline}
 use Rattle.control.specs.Messages.{initiate}
 use Rattle.control.specs.Transport.{caseDatagram, encryptKeepalive}
@@ -17,6 +17,11 @@ use Rattle.session.specs.Session.{caseTime, caseRole, dueBy}
 use Rattle.sessions.specs.Sessions.{caseFound, clear, expire, isEmpty}
 use Rattle.session.specs.declared.session.Session.{Session}
 use Rattle.sessions.specs.declared.sessions.Found.{Found}
+
+-- a control and the store of its windows
+pub record Inner : Type 0 where
+  pub control : Control
+  pub store : List ℕ
 
 -- a control and its store
 abbrev pub inner : Control → List ℕ → Inner
@@ -56,13 +61,13 @@ unfoldable pub keepaliveTimers : Control → ℕ → Timers
 keepaliveTimers c now =
     choose (dueBy (persistentDeadline c) now) (tickPersistentKeepalive (passiveTimers c now) now) (passiveTimers c now)
 
--- one keepalive queued for those that are due; the passive one's deadline is dropped even if there is no session for it
+-- one keepalive queued for those that are due; the passive one's deadline is dropped and the persistent one's time ticked even if there is no session for it
 unfoldable pub sendKeepalive : Control → ℕ → Control
 sendKeepalive c now = queueKeepalive (withTimers c (keepaliveTimers c now)) now
 
 -- a keepalive queued if one is due
-unfoldable pub keepalives : Control → ℕ → Control
-keepalives c now = choose (keepaliveDue c now) (sendKeepalive c now) c
+unfoldable pub keepaliveIfDue : Control → ℕ → Control
+keepaliveIfDue c now = choose (keepaliveDue c now) (sendKeepalive c now) c
 
 -- whether a handshake is required while none is in progress
 unfoldable pub rekeyDue : Control → ℕ → Bool
@@ -74,7 +79,7 @@ rekeyDue c now =
 -- the waking's rest while no initiation awaits a response
 unfoldable pub wakeIdle : Control → Bool → (jitter now : ℕ) → Control
 wakeIdle c required jitter now =
-    choose required (scheduling c jitter now) (choose (rekeyDue c now) (scheduling c jitter now) (keepalives c now))
+    choose required (scheduling c jitter now) (choose (rekeyDue c now) (scheduling c jitter now) (keepaliveIfDue c now))
 
 -- the waking's rest while an initiation awaits a response
 unfoldable pub wakeInProgress : Control → List ℕ → Bool → (jitter now : ℕ) → Inner

@@ -43,7 +43,7 @@ fn expire(mut control: Control, store: &mut [u64], now: u64) -> Control
     control.push_back(Event::ConnectionExpired)
 }
 
-// Queues a keepalive. None starts a handshake or waits for a session.
+// Queues a keepalive if there is a session for it. It starts no handshake and waits for none.
 fn queue_keepalive(mut control: Control, now: u64) -> Control
     requires { ⌜ RingWithin (control .events) ⌝ }
     ensures { λ r. ⌜ r ≡ queueKeepalive control now ⌝ }
@@ -97,7 +97,8 @@ fn keepalive_timers(control: Control, now: u64) -> Timers
     timers
 }
 
-// Queues one keepalive for those that are due. The passive one's deadline is dropped even if there is no session for it.
+// Queues one keepalive for those that are due. The passive one's deadline is dropped and the persistent one's time ticked even if there is no
+// session for it.
 fn send_keepalive(mut control: Control, now: u64) -> Control
     requires { ⌜ ControlWithin control timeLimit ⌝ }
     ensures { λ r. ⌜ r ≡ sendKeepalive control now ⌝ }

@@ -10,27 +10,30 @@ use native.Mathlib.Omega.{arith}
 use lib.Dec.{eqb}
 use lib.ListN.{length}
 use borrow.Author.Tests.{eqb-true}
-use Rattle.base.specs.Bits.{bit}
 use Rattle.base.specs.Choice.{choose}
 use Rattle.base.proofs.Bits.{bit-zero}
 use Rattle.base.proofs.Choice.{picks, yes-le, no-le, yes-eq, no-eq}
 use Rattle.base.proofs.Zeros.{zeros-at}
 use Rattle.window.specs.Window.{limit, wordOf, bitOf, bitAt, checkBit, setBit, clears, empty, advance, isInvalid, willAccept, nextAfter, wordsAfter}
-use Rattle.window.specs.History.{member, expected, judged, committing, seen, past, Represents, fresh, given, grown, verdict, committed}
+use Rattle.window.specs.History.{member, expected, judged, seen, past, Represents, fresh, given, grown, verdict, committed}
 use Rattle.window.proofs.Words.{length-setBit, setBit-fits, set-hit, set-miss, clears-hit, clears-miss}
 use Rattle.window.proofs.Ready.{empty-fits, valid, valid-only, advance-none, advance-near, advance-far, length-advance, advance-fits}
 
+-- the history with a counter, if it is committed
+unfoldable pub committing : List ℕ → ℕ → List ℕ
+committing history counter = choose (eqb (judged history counter) 0) (counter ∷ history) history
+
 -- membership
-pub member-here : (c : ℕ) (history : List ℕ) → member c (c ∷ history) ≡ true
+member-here : (c : ℕ) (history : List ℕ) → member c (c ∷ history) ≡ true
 unfolding member
 member-here c history = sym (yes-eq c c true true (member c history) refl refl)
 
-pub member-there : (c x : ℕ) (history : List ℕ) → (c ≡ x → ⊥) → member c (x ∷ history) ≡ member c history
+member-there : (c x : ℕ) (history : List ℕ) → (c ≡ x → ⊥) → member c (x ∷ history) ≡ member c history
 unfolding member
 member-there c x history h = sym (no-eq c x (member c history) true (member c history) h refl)
 
 -- no counter at or above the next expected one is in the history
-pub member-ahead : (c : ℕ) (history : List ℕ) → expected history ≤ c → member c history ≡ false
+member-ahead : (c : ℕ) (history : List ℕ) → expected history ≤ c → member c history ≡ false
 unfolding member expected
 member-ahead c [] h = refl
 member-ahead c (x ∷ history) h =
@@ -142,7 +145,7 @@ module _ (history words : List ℕ) (next : ℕ) (r : Represents history words n
     ready-kept : next ≤ y → y < next + 8192 → bitAt (advance words next c) y ≡ past history y
     ready-kept l h = elim (decLe c next) [
       | yes m ↦ rw (← advance-none words next c m) (r .bits y l h)
-      | no n ↦ rw (advance-near words next c (omega arith) (omega arith))
+      | no n ↦ rw (advance-near words next c (omega arith))
           (clears-miss words (r .long) next (c - next) y (omega arith) h ∙ r .bits y l h)
     ]
 
@@ -150,7 +153,7 @@ module _ (history words : List ℕ) (next : ℕ) (r : Represents history words n
     ready-skipped : next + 8192 ≤ y → y < c + 8192 → bitAt (advance words next c) y ≡ past history y
     ready-skipped l h = elim (decLe 8192 (c - next)) [
       | yes m ↦ rw (advance-far words next c m) (bit-empty y ∙ none)
-      | no n ↦ rw (advance-near words next c (omega arith) (omega arith)) (again ∙ cleared (omega arith) ∙ none)
+      | no n ↦ rw (advance-near words next c (omega arith)) (again ∙ cleared (omega arith) ∙ none)
     ]
       where
         none : 0 ≡ past history y

@@ -1,4 +1,4 @@
--- The words made ready for a counter: what `advance` leaves in each case, how many words, and that they fit; and the same of a commit.
+-- The words made ready for a counter: when it is valid, what `advance` leaves in each case, how many words, and that they fit; and the same of a commit.
 -- Assumes nothing.
 use mathlib.Core.Path.{_≡_, refl, sym, _∙_}
 use mathlib.Core.Bool.{Bool, true, false, true≢false}
@@ -64,9 +64,9 @@ module _ (words : List ℕ) (next c : ℕ) where
       let none : c - next ≡ 0 = omega arith in
       no-le 8192 (c - next) words empty (clears words next (c - next)) (omega arith) (rw none)
 
-  pub advance-near : next ≤ c → c - next < 8192 → advance words next c ≡ clears words next (c - next)
+  pub advance-near : c - next < 8192 → advance words next c ≡ clears words next (c - next)
   unfolding advance
-  advance-near l h = sym (no-le 8192 (c - next) _ _ _ h refl)
+  advance-near h = sym (no-le 8192 (c - next) _ _ _ h refl)
 
   pub advance-far : 8192 ≤ c - next → advance words next c ≡ empty
   unfolding advance
@@ -77,7 +77,7 @@ module _ (words : List ℕ) (next c : ℕ) where
   unfolding clears
   ready P far near = elim (decLe 8192 (c - next)) [
     | yes m ↦ rw (advance-far m) far
-    | no n ↦ elim (decLe c next) [ yes m ↦ rw (← advance-none m) (near 0) | no k ↦ rw (advance-near (omega arith) (omega arith)) (near (c - next)) ]
+    | no n ↦ rw (advance-near (omega arith)) (near (c - next))
   ]
 
   pub length-advance : length words ≡ 128 → length (advance words next c) ≡ 128

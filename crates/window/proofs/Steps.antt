@@ -35,7 +35,7 @@ module _ (ws : List ℕ) (c word place : ℕ) (w : word ≡ wordOf c) (p : place
   bit-checked = rw (w, p)
 
 -- a run of counters cleared up to i, and from there on
-pub run-joined : (ws now last : List ℕ) (from i to : ℕ) → from ≤ i → i ≤ to
+run-joined : (ws now last : List ℕ) (from i to : ℕ) → from ≤ i → i ≤ to
     → now ≡ clears ws from (i - from) → last ≡ clears now i (to - i) → last ≡ clears ws from (to - from)
 run-joined ws now last from i to h m e l =
     let place : from + (i - from) ≡ i = omega arith in

@@ -33,7 +33,7 @@ module _ (words : List ℕ) (c : ℕ) where
   unfolding setBit
   length-setBit = simp length-set
 
-  pub length-clearBit : length (clearBit words c) ≡ length words
+  length-clearBit : length (clearBit words c) ≡ length words
   unfolding clearBit
   length-clearBit = simp length-set
 
@@ -50,7 +50,7 @@ module _ (words : List ℕ) (long : length words ≡ 128) (c y : ℕ) where
       ∙ ap (λ (b : ℕ). bit (bitOr (getD words (wordOf c) 0) (2 ^ bitOf c)) b) (omega arith)
       ∙ bit-set-same (getD words (wordOf c) 0) (bitOf c)
 
-  pub clear-hit : y % 8192 ≡ c % 8192 → bitAt (clearBit words c) y ≡ 0
+  clear-hit : y % 8192 ≡ c % 8192 → bitAt (clearBit words c) y ≡ 0
   unfolding clearBit
   clear-hit e =
       put-here words long c _ y (ap (λ (x : ℕ). x / 64) e)
@@ -72,7 +72,7 @@ module _ (words : List ℕ) (long : length words ≡ 128) (c y : ℕ) where
     | no d ↦ put-there words long c _ y d
   ]
 
-  pub clear-miss : (y % 8192 ≡ c % 8192 → ⊥) → bitAt (clearBit words c) y ≡ bitAt words y
+  clear-miss : (y % 8192 ≡ c % 8192 → ⊥) → bitAt (clearBit words c) y ≡ bitAt words y
   unfolding clearBit
   clear-miss h = elim (ℕ-discrete (wordOf y) (wordOf c)) [
     | yes e ↦ put-here words long c _ y e

@@ -25,10 +25,6 @@ unfoldable pub judged : List ℕ → ℕ → ℕ
 judged history counter =
     choose (isInvalid (expected history) counter) 9 (choose (member counter history) 10 0)
 
--- the history with a counter, if it is committed
-unfoldable pub committing : List ℕ → ℕ → List ℕ
-committing history counter = choose (eqb (judged history counter) 0) (counter ∷ history) history
-
 -- 1 where a counter is in the history, else 0
 unfoldable pub seen : List ℕ → ℕ → ℕ
 seen history counter = choose (member counter history) 1 0

@@ -149,7 +149,7 @@ fn is_invalid(next: u64, counter: u64) -> bool
     counter + N_BITS < next
 }
 
-// Whether `counter` is unseen and within the allowed range: 0, 9 or 10.
+// Whether `counter` is unseen and within the allowed range: 0, 9 or 10; 2 where the words are not 128.
 pub fn will_accept(words: &[u64], next: u64, counter: u64) -> u8
     ensures { λ r. ⌜ r ≡ willAccept (now (words .entry)) next counter ⌝ }
 {

@@ -1,10 +1,10 @@
 use borrow.Author.Needs.{needs}
-use Rattle.base.proofs.Parts.{counts}
+use Rattle.base.proofs.Parts.{part-length}
 use Rattle.drive.proofs.flush.Statement.{statement}
 use Rattle.drive.proofs.flush.Tie as tie
 
 slice-aggregate-write-all : tie.Need-slice-aggregate-write-all
-slice-aggregate-write-all c = search (counts, needs)
+slice-aggregate-write-all c = search (part-length, needs)
 
 write-all-requires : tie.Need-write-all-requires
 write-all-requires c κs = search needs

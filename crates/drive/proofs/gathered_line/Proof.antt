@@ -1,5 +1,5 @@
 use borrow.Author.Needs.{needs}
-use Rattle.base.proofs.Parts.{counts}
+use Rattle.base.proofs.Parts.{part-length}
 use Rattle.drive.proofs.gathered_line.Statement.{statement}
 use Rattle.drive.proofs.gathered_line.Tie as tie
 
@@ -10,7 +10,7 @@ returns-2 : tie.Need-returns-2
 returns-2 c = search needs
 
 slice-aggregate-read : tie.Need-slice-aggregate-read
-slice-aggregate-read c = search (counts, needs)
+slice-aggregate-read c = search (part-length, needs)
 
 read-requires : tie.Need-read-requires
 read-requires c κs = search needs

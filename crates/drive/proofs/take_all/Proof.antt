@@ -1,6 +1,6 @@
 use borrow.Author.Needs.{needs}
 use native.Mathlib.Omega.{arith}
-use Rattle.base.proofs.Parts.{counts}
+use Rattle.base.proofs.Parts.{part-length}
 use mathlib.Core.Path.{_≡_}
 use lib.ListN.{length}
 use Rattle.drive.proofs.take_all.Statement.{statement}
@@ -27,7 +27,7 @@ slice-reshare-prefix-take-part : tie.Need-slice-reshare-prefix-take-part Inv-loo
 slice-reshare-prefix-take-part c = search needs
 
 slice-aggregate-take-part : tie.Need-slice-aggregate-take-part Inv-loop μ-loop
-slice-aggregate-take-part c = search (counts, needs)
+slice-aggregate-take-part c = search (part-length, needs)
 
 take-part-requires : tie.Need-take-part-requires Inv-loop μ-loop
 take-part-requires c κs = search needs

@@ -1,6 +1,6 @@
 use Rattle.control.specs.Deadlines.{rejectDeadline, attemptDeadline}
 use Rattle.control.proofs.Steps.{cookie-within}
-use Rattle.waking.proofs.Woken.{rest-ended, rest-required, rest-rekeyed, rest-kept, rest-quiet, rest-given-up, rest-retried, rest-awaited, rest-waited}
+use Rattle.waking.proofs.Woken.{rest-ended, rest-required, rest-rekeyed, rest-keepalive, rest-quiet, rest-given-up, rest-retried, rest-asked, rest-waited}
 use borrow.Author.Needs.{needs}
 use Rattle.waking.proofs.wake_rest.Statement.{statement}
 use Rattle.waking.proofs.wake_rest.Tie as tie
@@ -61,7 +61,7 @@ send-keepalive-requires c κs = search (cookie-within, needs)
 
 returns-4 : tie.Need-returns-4
 unfolding attemptDeadline rejectDeadline
-returns-4 c = search (rest-kept, needs)
+returns-4 c = search (rest-keepalive, needs)
 
 returns-5 : tie.Need-returns-5
 unfolding attemptDeadline rejectDeadline
@@ -107,7 +107,7 @@ schedule-handshake-requires-4 c κs = search needs
 
 returns-8 : tie.Need-returns-8
 unfolding attemptDeadline rejectDeadline
-returns-8 c = search (rest-awaited, needs)
+returns-8 c = search (rest-asked, needs)
 
 returns-9 : tie.Need-returns-9
 unfolding attemptDeadline rejectDeadline

@@ -1,5 +1,5 @@
 use borrow.Author.Needs.{needs}
-use Rattle.base.proofs.Parts.{counts}
+use Rattle.base.proofs.Parts.{part-length}
 use Rattle.damage_cases.proofs.ask.ask.Statement.{statement}
 use Rattle.damage_cases.proofs.ask.ask.Tie as tie
 
@@ -16,7 +16,7 @@ slice-relend-prefix-ask-batch : tie.Need-slice-relend-prefix-ask-batch
 slice-relend-prefix-ask-batch c = search needs
 
 slice-aggregate-ask-batch : tie.Need-slice-aggregate-ask-batch
-slice-aggregate-ask-batch c = search (counts, needs)
+slice-aggregate-ask-batch c = search (part-length, needs)
 
 ask-batch-requires : tie.Need-ask-batch-requires
 ask-batch-requires c κs = tt
@@ -34,7 +34,7 @@ slice-relend-prefix-ask-store : tie.Need-slice-relend-prefix-ask-store
 slice-relend-prefix-ask-store c = search needs
 
 slice-aggregate-ask-store : tie.Need-slice-aggregate-ask-store
-slice-aggregate-ask-store c = search (counts, needs)
+slice-aggregate-ask-store c = search (part-length, needs)
 
 ask-store-requires : tie.Need-ask-store-requires
 ask-store-requires c κs = tt

@@ -1,5 +1,5 @@
 use borrow.Author.Needs.{needs}
-use Rattle.base.proofs.Parts.{counts}
+use Rattle.base.proofs.Parts.{part-length}
 use Rattle.damage_cases.proofs.ask.ask_lists.Statement.{statement}
 use Rattle.damage_cases.proofs.ask.ask_lists.Tie as tie
 
@@ -13,16 +13,16 @@ at-most-requires-3 : tie.Need-at-most-requires-3
 at-most-requires-3 c κs = tt
 
 slice-aggregate-receive : tie.Need-slice-aggregate-receive
-slice-aggregate-receive c = search (counts, needs)
+slice-aggregate-receive c = search (part-length, needs)
 
 slice-aggregate-receive-2 : tie.Need-slice-aggregate-receive-2
-slice-aggregate-receive-2 c = search (counts, needs)
+slice-aggregate-receive-2 c = search (part-length, needs)
 
 slice-relend-prefix-receive : tie.Need-slice-relend-prefix-receive
 slice-relend-prefix-receive c = search needs
 
 slice-aggregate-receive-3 : tie.Need-slice-aggregate-receive-3
-slice-aggregate-receive-3 c = search (counts, needs)
+slice-aggregate-receive-3 c = search (part-length, needs)
 
 receive-requires : tie.Need-receive-requires
 receive-requires c κs = tt

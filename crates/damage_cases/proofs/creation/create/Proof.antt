@@ -1,5 +1,5 @@
 use borrow.Author.Needs.{needs}
-use Rattle.base.proofs.Parts.{counts}
+use Rattle.base.proofs.Parts.{part-length}
 use Rattle.damage_cases.proofs.creation.create.Statement.{statement}
 use Rattle.damage_cases.proofs.creation.create.Tie as tie
 
@@ -10,7 +10,7 @@ slice-relend-prefix-new : tie.Need-slice-relend-prefix-new
 slice-relend-prefix-new c = search needs
 
 slice-aggregate-new : tie.Need-slice-aggregate-new
-slice-aggregate-new c = search (counts, needs)
+slice-aggregate-new c = search (part-length, needs)
 
 new-requires : tie.Need-new-requires
 new-requires c κs = tt

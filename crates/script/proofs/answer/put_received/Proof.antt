@@ -1,5 +1,5 @@
 use borrow.Author.Needs.{needs}
-use Rattle.base.proofs.Parts.{counts}
+use Rattle.base.proofs.Parts.{part-length}
 use Rattle.script.proofs.answer.put_received.Statement.{statement}
 use Rattle.script.proofs.answer.put_received.Tie as tie
 
@@ -13,7 +13,7 @@ returns : tie.Need-returns
 returns c = search needs
 
 slice-aggregate-put-batch : tie.Need-slice-aggregate-put-batch
-slice-aggregate-put-batch c = search (counts, needs)
+slice-aggregate-put-batch c = search (part-length, needs)
 
 put-batch-requires-2 : tie.Need-put-batch-requires-2
 put-batch-requires-2 c κs = search needs

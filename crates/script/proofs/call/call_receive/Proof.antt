@@ -1,5 +1,5 @@
 use borrow.Author.Needs.{needs}
-use Rattle.base.proofs.Parts.{counts}
+use Rattle.base.proofs.Parts.{part-length}
 use Rattle.script.proofs.call.call_receive.Statement.{statement}
 use Rattle.script.proofs.call.call_receive.Tie as tie
 
@@ -7,16 +7,16 @@ places-requires : tie.Need-places-requires
 places-requires c κs = search needs
 
 slice-aggregate-receive : tie.Need-slice-aggregate-receive
-slice-aggregate-receive c = search (counts, needs)
+slice-aggregate-receive c = search (part-length, needs)
 
 slice-aggregate-receive-2 : tie.Need-slice-aggregate-receive-2
-slice-aggregate-receive-2 c = search (counts, needs)
+slice-aggregate-receive-2 c = search (part-length, needs)
 
 slice-relend-prefix-receive : tie.Need-slice-relend-prefix-receive
 slice-relend-prefix-receive c = search needs
 
 slice-aggregate-receive-3 : tie.Need-slice-aggregate-receive-3
-slice-aggregate-receive-3 c = search (counts, needs)
+slice-aggregate-receive-3 c = search (part-length, needs)
 
 receive-requires : tie.Need-receive-requires
 receive-requires c κs = search needs

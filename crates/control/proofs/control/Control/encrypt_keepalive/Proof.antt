@@ -1,4 +1,4 @@
-use Rattle.control.proofs.TransportWays.{way-kept}
+use Rattle.control.proofs.TransportWays.{way-keepalive}
 use Rattle.session.proofs.Cases.{cases}
 use Rattle.sessions.proofs.Cases.{lookups}
 use Rattle.control.specs.Transport.{encryptKeepalive}
@@ -39,7 +39,7 @@ tick-last-packet-sent-requires : tie.Need-tick-last-packet-sent-requires
 tick-last-packet-sent-requires c κs = search needs
 
 returns-3 : tie.Need-returns-3
-returns-3 c = search (way-kept, needs)
+returns-3 c = search (way-keepalive, needs)
 
 pub encrypt-keepalive-spec : {M : Type 1} → statement M
 encrypt-keepalive-spec = tie.close (tie.spec sending-session-requires
