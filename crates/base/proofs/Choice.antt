@@ -2,7 +2,7 @@
 -- `search picks` follows a function's tests through its definition.
 -- Assumes nothing.
 use mathlib.Core.Path.{_≡_, refl}
-use mathlib.Core.Bool.{Bool, true, false}
+use mathlib.Core.Bool.{Bool, true, false, true≢false}
 use Prim.Native.Nat.{ℕ, _≤_, _<_}
 use lib.Dec.{ltb, leb, eqb}
 use borrow.Author.Tests.{lt-ltb, le-ltb, le-leb, lt-leb, eq-eqb, ne-eqb}
@@ -51,3 +51,20 @@ module _ {A : Type 0} where
   same-choice false x = refl
 
 pub ruleset picks = (yes-flag, no-flag, yes-lt, no-lt, yes-le, no-le, yes-eq, no-eq, yes-call, no-call)
+
+-- what holds of every side of a choice holds of the choice, with the test known or not
+module _ {A : Type 0} (P : A → Type 0) where
+  pub known-choice : (f : Bool) (x y : A) → (f ≡ true → P x) → (f ≡ false → P y) → P (choose f x y)
+  unfolding choose
+  known-choice true x y p q = p refl
+  known-choice false x y p q = q refl
+
+  pub of-choice : (f : Bool) (x y : A) → P x → P y → P (choose f x y)
+  of-choice f x y p q = known-choice f x y (λ e. p) (λ e. q)
+
+-- of two faults, one of which is a test that fails, there is none
+pub no-fault : (bad good : Bool) → choose bad true (choose good false true) ≡ false → good ≡ true
+unfolding choose
+no-fault true good e = absurd (true≢false e)
+no-fault false true e = refl
+no-fault false false e = absurd (true≢false e)

@@ -4,14 +4,21 @@ use mathlib.Core.Path.{_≡_, refl, _∙_}
 use mathlib.Core.List.{List, _++_, append-nil}
 use Prim.Native.Nat.{ℕ, zero, suc, _+_, _≤_, _<_}
 use native.Mathlib.Omega.{arith}
-use lib.ListN.{length, getD, set, drop, replicate, length-set, drop-of-length-le}
+use lib.ListN.{length, getD, set, drop, replicate, length-set, length-replicate, drop-of-length-le}
+use Rattle.base.specs.Lists.{zeros}
 use borrow.Author.Fill.{fill-more, fill-none}
 
 -- every element of a list of zeros, and past its end, reads 0
-pub zeros-at : (n j : ℕ) → _≡_ {A = ℕ} (getD (replicate n 0) j 0) 0
+pub zeros-at : (n j : ℕ) → getD (zeros n) j 0 ≡ 0
+unfolding zeros
 zeros-at zero j = refl
 zeros-at (suc n) zero = refl
 zeros-at (suc n) (suc j) = zeros-at n j
+
+-- so many zeros are so many
+pub length-zeros : (n : ℕ) → length (zeros n) ≡ n
+unfolding zeros
+length-zeros n = length-replicate n 0
 
 -- the first `done` of the list's `size` elements are zero, and the rest is as it came
 pub record Zeroed (came now : List ℕ) (size done : ℕ) : Type 0 where
@@ -34,7 +41,8 @@ module _ (came : List ℕ) (size : ℕ) where
           left = e ∙ rw (z .left) (fill-more done 0 came (omega (arith, z .whole, z .long)));
         }
 
-    pub zero-ends : size ≤ done → now ≡ replicate size 0
+    pub zero-ends : length now ≤ done → now ≡ zeros size
+    unfolding zeros
     zero-ends h =
-        let full : done ≡ size = omega arith in
+        let full : done ≡ size = omega (arith, z .long, z .within) in
         z .left ∙ rw full (rw (drop-of-length-le came {i = size} (omega (arith, z .whole))) (append-nil (replicate size 0)))

@@ -1,4 +1,5 @@
 pub mod Bits
 pub mod Choice
 pub mod First
+pub mod Lists
 pub mod Sums

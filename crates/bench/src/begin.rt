@@ -1,8 +1,8 @@
 // The tunnels that the cases begin with.
 use crate::turns::wakes;
-use control::answer::Answer;
-use parts::event::Event;
-use session::session::Time;
+use sessions::session::Time;
+use tunnel::answer::Answer;
+use tunnel::event::Event;
 use tunnel::tunnel::Tunnel;
 
 // The local index of the first session.

@@ -10,6 +10,7 @@ const PAUSE: u64 = 10_000_000_000;
 // The time from an initiation to its response.
 const TRIP: u64 = 1_000_000;
 
+// The jitter of each waking, in nanoseconds.
 const JITTER: u64 = 200_000_000;
 
 // The tunnel, the time, the current session's local index and id, and a number that depends on each answer.

@@ -7,18 +7,18 @@ use crate::fields::slot_of;
 use crate::sound::expired;
 use crate::sound::sound;
 use crate::unlooked::changed;
-use control::control::Control;
-use parts::event::Event;
-use parts::handshake::Cookies;
-use parts::handshake::Handshake;
-use parts::handshake::HandshakeState;
-use parts::ring_buffer::RingBuffer;
-use parts::ring_buffer::Slot;
-use parts::timers::Interval;
-use parts::timers::Timers;
-use session::session::Session;
-use session::session::Time;
+use sessions::session::Session;
+use sessions::session::Time;
 use sessions::sessions::Sessions;
+use tunnel::control::Control;
+use tunnel::event::Event;
+use tunnel::handshake::Cookies;
+use tunnel::handshake::Handshake;
+use tunnel::handshake::HandshakeState;
+use tunnel::ring_buffer::RingBuffer;
+use tunnel::ring_buffer::Slot;
+use tunnel::timers::Interval;
+use tunnel::timers::Timers;
 use tunnel::tunnel::Tunnel;
 
 // A tunnel of the cases, by a field's number and its value.
@@ -27,11 +27,13 @@ pub struct Damage {
     pub value: u64,
 }
 
-// Past the fields' numbers: the sound tunnel, the sound tunnel with an expired handshake, and one that expired by a waking.
+// Past the fields' numbers: the sound tunnel.
 const SOUND: u64 = 96;
 
+// Past the fields' numbers: the sound tunnel with an expired handshake.
 const ENDED: u64 = 97;
 
+// Past the fields' numbers: the tunnel that expired by a waking.
 const WOKEN: u64 = 98;
 
 // The sound tunnel.

@@ -12,27 +12,34 @@ use crate::tally::Tally;
 use crate::tally::case_of;
 use crate::tally::no_cases;
 
-// Which calls a request is made of: all; those with a time; those with an argument besides the time that can be out of range; those with
-// both; those with the store; the three handshake messages.
+// A request is made of all calls.
 pub const ALL: u64 = 0;
 
+// A request is made of the calls with a time.
 pub const TIMED: u64 = 1;
 
+// A request is made of the calls with an argument besides the time that can be out of range.
 pub const RANGED: u64 = 2;
 
+// A request is made of the calls with a time and such an argument.
 pub const TIMED_RANGED: u64 = 3;
 
+// A request is made of the calls with the store.
 pub const STORED: u64 = 4;
 
+// A request is made of the three handshake messages.
 pub const MESSAGES: u64 = 5;
 
-// What a call is to give, by the call: on the sound tunnel, on an expired one with sessions and on one without, or by its outcome.
+// What a call is to give, by the call, on the sound tunnel.
 pub const OF_SOUND: u64 = 30;
 
+// What a call is to give, by the call, on an expired tunnel with sessions.
 pub const OF_EXPIRED: u64 = 31;
 
+// What a call is to give, by the call, on an expired tunnel without sessions.
 pub const OF_EMPTY: u64 = 32;
 
+// What a call is to give, by the call, for its outcome.
 pub const OF_OUTCOME: u64 = 33;
 
 // Whether a call has a time.

@@ -1,41 +1,46 @@
 // The fields of the sound tunnel by number, and their values at the edge of what number 14 lets through and just beyond it.
 use crate::sound::GREATEST;
-use parts::timers::MAX_JITTER;
-use session::session::REJECT_AFTER_MESSAGES;
+use sessions::session::REJECT_AFTER_MESSAGES;
+use tunnel::timers::MAX_JITTER;
 use tunnel::tunnel::TIME_LIMIT;
 
 // The greatest time.
 pub const GREATEST_TIME: u64 = 0;
 
-// The seven timers and `last_update`.
+// The first of the seven timers.
 pub const TIMERS: u64 = 1;
 
+// `TimeLastUpdate`.
 pub const LAST_UPDATE: u64 = 8;
 
-// The times that may be missing.
+// The first of the times that may be missing.
 pub const PRESENT_TIMES: u64 = 9;
 
+// The time of the scheduled handshake, the last that may be missing.
 pub const SCHEDULED: u64 = 15;
 
-// The keepalive below and above its range.
+// The first of two: the keepalive below and above its range.
 pub const KEEPALIVE: u64 = 16;
 
-// The ring's head and length.
+// The first of two: the ring's head and its length.
 pub const RING: u64 = 18;
 
-// The four fields of each filled slot, then of each empty one.
+// The first of the four fields of each filled slot.
 pub const FILLED_SLOTS: u64 = 20;
 
+// The first of the four fields of each empty slot.
 pub const EMPTY_SLOTS: u64 = 32;
 
-// The two times of an established event at each queued place of the ring, then at each unused one.
+// The first of the two times of an established event at each queued place of the ring.
 pub const QUEUED: u64 = 52;
 
+// The first of the two times of an established event at each unused place of the ring.
 pub const UNUSED: u64 = 66;
 
-// The fields that number 14 does not look at.
+// The first of the fields that number 14 does not look at.
 pub const UNLOOKED: u64 = 84;
 
+// How many fields there are.
 pub const FIELDS: u64 = 96;
 
 // The slot of a field of the slots: slots 1, 2 and 5 are filled.

@@ -4,19 +4,21 @@ use crate::damage::Damage;
 use crate::request::INITIATION;
 use crate::request::Request;
 use crate::same::same_tunnel;
-use control::answer::Answer;
-use session::session::Time;
+use sessions::session::Time;
+use tunnel::answer::Answer;
 use tunnel::tunnel::Answered;
 use tunnel::tunnel::Tunnel;
 
-// What may be expected of a call, besides the number that turns it down: `NoAnswer` and only the greatest time raised; no deadline
-// and nothing changed; any answer; any answer and any number but 14.
+// Past the numbers that turn a call down: `NoAnswer` is expected and only the greatest time raised.
 pub const NO_ANSWER: u64 = 20;
 
+// No deadline is expected and nothing changed.
 pub const NO_DEADLINE: u64 = 21;
 
+// Any answer is expected.
 pub const ANSWERED: u64 = 22;
 
+// Any answer is expected, or any number but 14.
 pub const NOT_14: u64 = 23;
 
 // The verdict that stands in the list before a call.

@@ -1,28 +1,39 @@
 // A call with its arguments.
 
-// The twelve calls that take a tunnel: those without the store, then those with it.
+// The twelve calls that take a tunnel, first those without the store: `initiate_handshake`.
 pub const START: u64 = 0;
 
+// `restart_handshake`.
 pub const RESTART: u64 = 1;
 
+// `send`.
 pub const SEND: u64 = 2;
 
+// `handle_cookie_reply`.
 pub const COOKIE: u64 = 3;
 
+// `poll_event`.
 pub const EVENT: u64 = 4;
 
+// `poll_timeout`.
 pub const DEADLINE: u64 = 5;
 
+// The calls with the store: `receive`.
 pub const RECEIVE: u64 = 6;
 
+// `look`.
 pub const LOOK: u64 = 7;
 
+// `handle_handshake_initiation`.
 pub const INITIATION: u64 = 8;
 
+// `handle_handshake_response`.
 pub const RESPONSE: u64 = 9;
 
+// `handle_timeout`.
 pub const WAKING: u64 = 10;
 
+// `missing`.
 pub const MISSING: u64 = 11;
 
 // How many calls there are.

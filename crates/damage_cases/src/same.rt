@@ -1,17 +1,17 @@
 // Whether two tunnels are the same, field by field. An enum is compared by the number of its variant and by what the variant holds.
-use control::control::Control;
-use parts::event::Event;
-use parts::handshake::Cookies;
-use parts::handshake::Handshake;
-use parts::handshake::HandshakeState;
-use parts::ring_buffer::RingBuffer;
-use parts::timers::Interval;
-use parts::timers::Timers;
-use session::session::Role;
-use session::session::Session;
-use session::session::Time;
+use sessions::session::Role;
+use sessions::session::Session;
+use sessions::session::Time;
 use sessions::sessions::Selected;
 use sessions::sessions::Sessions;
+use tunnel::control::Control;
+use tunnel::event::Event;
+use tunnel::handshake::Cookies;
+use tunnel::handshake::Handshake;
+use tunnel::handshake::HandshakeState;
+use tunnel::ring_buffer::RingBuffer;
+use tunnel::timers::Interval;
+use tunnel::timers::Timers;
 use tunnel::tunnel::Tunnel;
 
 // A variant's number and the two numbers that it holds, 0 where it holds fewer.

@@ -10,13 +10,13 @@ use crate::request::SEND;
 use crate::request::START;
 use crate::request::WAKING;
 use crate::request::good;
-use control::control::Control;
-use parts::event::Event;
-use parts::ring_buffer::RingBuffer;
-use parts::ring_buffer::Slot;
-use parts::timers::Timers;
-use session::session::Time;
+use sessions::session::Time;
 use sessions::sessions::Sessions;
+use tunnel::control::Control;
+use tunnel::event::Event;
+use tunnel::ring_buffer::RingBuffer;
+use tunnel::ring_buffer::Slot;
+use tunnel::timers::Timers;
 use tunnel::tunnel::Tunnel;
 
 // The greatest time of the sound tunnel.
@@ -29,11 +29,13 @@ pub fn made(index: u32, keepalive: u64, now: u64) -> Tunnel {
     answered.tunnel
 }
 
-// The calls that lead to the sound tunnel, and then those that lead to the expired one.
+// The first of the calls that lead to the sound tunnel.
 const SOUND: u64 = 0;
 
+// The first of the calls that lead to the expired tunnel.
 const EXPIRED: u64 = 8;
 
+// How many calls there are in both.
 const STEPS: u64 = 10;
 
 // Which call a step makes.

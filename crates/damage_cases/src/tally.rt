@@ -1,5 +1,6 @@
-// Cases that were tried, and how many went wrong.
+// The count of cases.
 
+// Cases that were tried, and how many went wrong.
 pub struct Tally {
     pub cases: u64,
     pub wrong: u64,

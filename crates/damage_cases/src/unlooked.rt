@@ -1,10 +1,10 @@
 // Fields that number 14 does not look at, each with a value that the calls would not leave there.
-use control::control::Control;
-use parts::handshake::Cookies;
-use parts::handshake::Handshake;
-use parts::handshake::HandshakeState;
 use sessions::sessions::Selected;
 use sessions::sessions::Sessions;
+use tunnel::control::Control;
+use tunnel::handshake::Cookies;
+use tunnel::handshake::Handshake;
+use tunnel::handshake::HandshakeState;
 
 // The current session.
 fn with_current(sessions: Sessions, field: u64) -> Sessions {

@@ -9,17 +9,17 @@ use native.Mathlib.Omega.{arith}
 use lib.Dec.{ltb, leb, eqb}
 use borrow.Author.Tests.{ltb-true, leb-true, eqb-true}
 use Rattle.base.specs.Choice.{choose}
-use Rattle.control.specs.Answer.{numberOf}
-use Rattle.control.specs.declared.answer.Answer.the-variants.{No, Done, NoAnswer, Initiation, Response, Keepalive, Granted, Polled, Deadline, Report}
-use Rattle.control.specs.declared.answer.Answer.{Answer}
+use Rattle.tunnel.specs.Answer.{numberOf}
+use Rattle.tunnel.specs.declared.answer.Answer.the-variants.{No, Done, NoAnswer, Initiation, Response, Keepalive, Granted, Polled, Deadline, Report}
+use Rattle.tunnel.specs.declared.answer.Answer.{Answer}
 use Rattle.demands.specs.Calls.Call.{send, timeout, deadline}
 use Rattle.demands.specs.Calls.{Call, World, step, after}
 use Rattle.demands.specs.Wakings.{Step, shared, extra, wokenCalls, Ran, ran, ranAfter, Current, Expired, BeforeDeadline, timeOf, NotEarlier, ComesEarly, CurrentOrUnset, InOrder}
-use Rattle.session.specs.Session.{caseTime}
-use Rattle.sessions.specs.Sessions.{caseFound, currentOf}
-use Rattle.session.specs.declared.session.Session.{Session}
-use Rattle.session.specs.declared.session.Time.the-variants.{Never, At}
-use Rattle.session.specs.declared.session.Time.{Time}
+use Rattle.sessions.specs.Cases.{caseTime, caseFound}
+use Rattle.sessions.specs.Sessions.{currentOf}
+use Rattle.sessions.specs.declared.session.Session.{Session}
+use Rattle.sessions.specs.declared.session.Time.the-variants.{Never, At}
+use Rattle.sessions.specs.declared.session.Time.{Time}
 use Rattle.sessions.specs.declared.sessions.Found.the-variants.{Nothing, Got}
 use Rattle.sessions.specs.declared.sessions.Found.{Found}
 

@@ -2,29 +2,27 @@
 -- Assumes nothing.
 use mathlib.Core.Path.{_≡_, refl, ap, sym, _∙_}
 use mathlib.Core.Bool.{Bool, true, false}
-use mathlib.Core.List.{List, [], _∷_, _++_, append-assoc}
+use mathlib.Core.List.{List, [], _∷_, _++_, append-assoc, append-nil}
 use Prim.Native.Nat.{ℕ, _+_, _^_, _<_}
 use native.Mathlib.Nat.{add-zero}
 use native.Mathlib.Omega.{arith}
 use lib.ListN.{getD-replicate, length-replicate}
 use Rattle.base.specs.Choice.{choose}
-use Rattle.control.proofs.Steps.{not-empty}
-use Rattle.control.specs.Control.{newControl}
-use Rattle.control.specs.declared.answer.Answer.the-variants.{No, Done}
+use Rattle.demands.proofs.Held.{not-empty, Held}
+use Rattle.tunnel.specs.Control.{newControl}
+use Rattle.tunnel.specs.declared.answer.Answer.the-variants.{No, Done}
 use Rattle.demands.proofs.Grown.{sound-step, sound-created}
-use Rattle.demands.proofs.Held.{append-nothing, Held}
 use Rattle.demands.proofs.Known.{Known, known-as}
-use Rattle.demands.proofs.Moves.{}
 use Rattle.demands.proofs.Queued.{queue-new}
 use Rattle.demands.proofs.Stepped.{next}
 use Rattle.demands.specs.Calls.{Call, World, step, after, Creation, creating, created, Good}
 use Rattle.demands.specs.Made.{made, insertions}
 use Rattle.demands.specs.Receiving.{committed, historyOf}
-use Rattle.demands.specs.Sending.{Grant, wokenGrant, answeredGrant, wokenGrants, grants, upFrom, countersOf}
-use Rattle.session.proofs.Words.{length-zeros}
-use Rattle.session.specs.Session.{emptySession}
+use Rattle.demands.specs.Sending.{Grant, wokenGrant, answeredGrant, wokenGrants, grants, countersOf}
+use Rattle.base.specs.Lists.{upFrom, zeros}
+use Rattle.base.proofs.Zeros.{length-zeros}
+use Rattle.sessions.specs.Session.{emptySession}
 use Rattle.sessions.specs.Sessions.{emptySlots, newSessions}
-use Rattle.session.specs.Store.{zeros}
 use Rattle.tunnel.specs.Sound.{Sound}
 use Rattle.tunnel.specs.Tunnel as calls
 use Rattle.tunnel.specs.Tunnel.{Called, answered, callNew, refused}
@@ -42,7 +40,7 @@ assoc-three g a v r = ap (λ (l : List Grant). g ++ l) (sym (append-assoc a v r)
 known-after : (calls : List Call) (n : ℕ) (h : ℕ → List ℕ) (g k : List Grant) (w : World) → Sound (w .tunnel)
     → n + insertions (made w calls) < 2 ^ 64 → Known n h g k (w .tunnel .control) (w .store) → KnownAfter n h g k w calls
 unfolding made insertions committed grants wokenGrants after
-known-after [] n h g k w s few y = known-as n _ h g _ k _ _ _ (add-zero n) (append-nothing g) (append-nothing k) y
+known-after [] n h g k w s few y = known-as n _ h g _ k _ _ _ (add-zero n) (append-nil g) (append-nil k) y
 known-after (call ∷ calls) n h g k w s few y =
     known-as _ _ _ _ _ _ _ _ _ (omega arith) (assoc-three g (answeredGrant w (step w call .answer)) (wokenGrant w call (step w call)) (grants (made (step w call .world) calls)))
     (sym (append-assoc k (wokenGrant w call (step w call)) (wokenGrants (made (step w call .world) calls))))

@@ -3,27 +3,27 @@
 -- Assumes nothing.
 use mathlib.Core.Path.{_≡_, refl, ap, sym, _∙_}
 use mathlib.Core.Bool.{true}
-use mathlib.Core.List.{List, [], _∷_, _++_}
+use mathlib.Core.List.{List, [], _∷_, _++_, append-nil}
 use Prim.Native.Nat.{ℕ, _+_, _%_, _^_, _≤_, _<_}
 use native.Mathlib.Omega.{arith}
 use lib.ListN.{length, length-set}
 use borrow.Author.Tests.{eq-eqb}
 use Rattle.base.specs.Choice.{choose}
-use Rattle.control.proofs.Steps.{of-choice}
-use Rattle.demands.proofs.Held.{from-on, long-from, counters-on, counters-own, counters-other, append-nothing, Runs, SlotHeld, Held, Changed, held-changed}
-use Rattle.demands.proofs.Moves.{InSlot, received-slot, put-at, changed-put}
-use Rattle.demands.specs.Sending.{Grant, granting, upFrom, countersOf}
-use Rattle.sessions.proofs.Judged.{batch-law, fresh-law}
-use Rattle.sessions.proofs.Received.{length-batch, progress-index, slots-apart}
-use Rattle.session.proofs.Words.{slot-long, length-zeros, length-put}
-use Rattle.sessions.specs.Batch.{Outcome, receivingSession, batchOf, withProgress, receive, commit, committedTo, answered, fits}
-use Rattle.sessions.specs.History.{recordedAll, Call, Live, BatchLaw}
-use Rattle.session.specs.Index.{slotOf}
-use Rattle.sessions.specs.Laws.{Kept}
-use Rattle.session.specs.Session.{withId}
-use Rattle.sessions.specs.Sessions.{caseFound, slotAt, put, inserting, insert}
-use Rattle.session.specs.Store.{slotWords, putSlot, zeros}
-use Rattle.session.specs.declared.session.Session.{Session}
+use Rattle.base.proofs.Counting.{join-upFrom, length-upFrom}
+use Rattle.demands.proofs.Held.{counters-on, counters-own, counters-other, Runs, SlotHeld, Held, Changed, held-changed}
+use Rattle.sessions.specs.Laws.{InSlot, Kept}
+use Rattle.sessions.proofs.Laws.{lookup-law, slot-law, whole-law, slots-apart}
+use Rattle.demands.proofs.Moves.{put-at, changed-put}
+use Rattle.demands.specs.Sending.{Grant, granting, countersOf}
+use Rattle.base.specs.Lists.{upFrom, zeros}
+use Rattle.demands.proofs.Judged.{batch-law, inserted-law, judged-stands, batchOf, sessionAfter, storeAfter}
+use Rattle.sessions.specs.Batch.{receivingSession, fits}
+use Rattle.demands.specs.History.{recordedAll, BatchLaw, BatchCall, LiveBatch}
+use Rattle.sessions.specs.Index.{slotOf}
+use Rattle.sessions.specs.Session.{withId}
+use Rattle.sessions.specs.Sessions.{slotAt, put, inserting, insert}
+use Rattle.sessions.specs.Store.{slotWords, putSlot}
+use Rattle.sessions.specs.declared.session.Session.{Session}
 use Rattle.sessions.specs.declared.sessions.Found.the-variants.{Got}
 use Rattle.sessions.specs.declared.sessions.Sessions.{Sessions}
 use Rattle.window.specs.Window.{limit}
@@ -82,18 +82,18 @@ module _ (n : ℕ) (h : ℕ → List ℕ) (g : List Grant) (s last : Sessions) (
     held-granted peer len e =
         let start : 0 + x .«sending_key_counter» ≡ x .«sending_key_counter» = omega arith in
         held-counted _
-        (λ i d. counters-on i g _ ∙ ap (λ (l : List ℕ). countersOf i g ++ l) (counters-other i (x .id) peer _ len (λ p. d (sym p))) ∙ append-nothing _)
+        (λ i d. counters-on i g _ ∙ ap (λ (l : List ℕ). countersOf i g ++ l) (counters-other i (x .id) peer _ len (λ p. d (sym p))) ∙ append-nil _)
         (counters-on (x .id) g _ ∙ ap (λ (l : List ℕ). l ++ countersOf (x .id) (granting (x .id) peer (x .«sending_key_counter») len ∷ [])) (own-slot .granted)
         ∙ ap (λ (l : List ℕ). upFrom 0 (x .«sending_key_counter») ++ l) (counters-own (x .id) peer (x .«sending_key_counter») len)
         ∙ ap (λ (i : ℕ). upFrom 0 (x .«sending_key_counter») ++ upFrom i len) (sym start)
-        ∙ from-on 0 (x .«sending_key_counter») len ∙ ap (λ (i : ℕ). upFrom 0 i) (sym e))
+        ∙ join-upFrom 0 (x .«sending_key_counter») len ∙ ap (λ (i : ℕ). upFrom 0 i) (sym e))
 
   -- the send counter is at most LIMIT
   counter-below : x .«sending_key_counter» ≤ limit
   counter-below =
       let r : Runs (countersOf (x .id) g) = w .runs (x .id) in
       let e : x .«sending_key_counter» ≡ r .count =
-      sym (long-from 0 _) ∙ ap length (sym (own-slot .granted) ∙ r .are) ∙ long-from 0 (r .count) in
+      sym (length-upFrom 0 _) ∙ ap length (sym (own-slot .granted) ∙ r .are) ∙ length-upFrom 0 (r .count) in
       omega (arith, e, r .below)
 
   -- nothing granted
@@ -138,7 +138,7 @@ module _ (n : ℕ) (h : ℕ → List ℕ) (g : List Grant) (s : Sessions) (store
       held-changed n (n + 1) h h g g s (insert s store x .sessions) store (insert s store x .store) slot w
       (record {
         eight = long;
-        size = ap length stored ∙ length-put store (zeros 128) slot (w .size) (omega arith) (length-zeros 128) ∙ sym (w .size);
+        size = whole-law s store (w .size) .insertion x ∙ sym (w .size);
         others = λ k low d. (let y : Kept s _ store _ k = slots-apart s store k .insertion x d in (y .session, y .words));
       })
       (omega arith)
@@ -146,7 +146,7 @@ module _ (n : ℕ) (h : ℕ → List ℕ) (g : List Grant) (s : Sessions) (store
       (record {
         placed = ap (λ (z : Session). slotOf (z .«receiving_index»)) inserted-at;
         named = rw id (omega arith);
-        stands = rw (id, w .unborn n (omega arith)) (fresh-law s store x (w .eight) (w .size) next .stands);
+        stands = rw (id, w .unborn n (omega arith)) (inserted-law s store x (w .eight) (w .size) next .stands);
         granted = ap (λ (i : ℕ). countersOf i g) id ∙ w .ungranted n (omega arith) ∙ none-yet ∙ ap (λ (i : ℕ). upFrom 0 i) (sym (ap (λ (z : Session). z .«sending_key_counter») inserted-at ∙ counter));
       })
       (λ k low d q p. let l : slotAt s k .id < n = w .slots k low q .named in omega (arith, l, p ∙ id))
@@ -157,21 +157,14 @@ module _ (n : ℕ) (h : ℕ → List ℕ) (g : List Grant) (s : Sessions) (store
 -- a batch judged
 module _ (n : ℕ) (h : ℕ → List ℕ) (g : List Grant) (s : Sessions) (store : List ℕ) (w : Held n h g s store) (index id now : ℕ)
     (counters kinds verdicts : List ℕ) (x : Session) (fit : fits counters kinds verdicts ≡ true) (found : receivingSession s index id now ≡ Got x) where
-  abbrev call : Call
+  abbrev call : BatchCall
   call = record { sessions = s; store = store; index = index; id = id; now = now; counters = counters; kinds = kinds; verdicts = verdicts }
 
-  abbrev out : Outcome
-  out = receive s store index id now counters kinds verdicts
-
-  goes : out ≡ committedTo s store x (batchOf store x counters kinds)
-  unfolding receive commit caseFound choose
-  goes = rw (eq-eqb (length store) 1024 (w .size), fit, found)
-
   in-slot : InSlot s index x
-  in-slot = received-slot s index id now x found .0
+  in-slot = lookup-law s .receiving index id now x found .0
 
   named : x .id ≡ id
-  named = received-slot s index id now x found .1
+  named = lookup-law s .receiving index id now x found .1
 
   abbrev at : ℕ
   at = slotOf index
@@ -182,7 +175,7 @@ module _ (n : ℕ) (h : ℕ → List ℕ) (g : List Grant) (s : Sessions) (store
   own : SlotHeld n h g at x (slotWords store at)
   own = of-same n h g at (slotWords store at) (slotAt s at) x (in-slot .stored) (w .slots at (omega arith) filled-at)
 
-  live : Live call x (h id)
+  live : LiveBatch call x (h id)
   live =
       record {
         eight = w .eight;
@@ -196,62 +189,38 @@ module _ (n : ℕ) (h : ℕ → List ℕ) (g : List Grant) (s : Sessions) (store
   batch-judged = batch-law call x (h id) live
 
   abbrev left : Session
-  left = withProgress x (batchOf store x counters kinds .progress)
+  left = sessionAfter store x counters kinds
 
-  left-id : left .id ≡ x .id
-  unfolding withProgress
-  left-id = of-choice (λ (y : Session). y .id ≡ x .id) _ _ _ refl refl
+  left-at : slotAt (put s left) at ≡ left
+  left-at = ap (λ (i : ℕ). slotAt (put s left) (slotOf i)) (sym (in-slot .named)) ∙ put-at s left store (w .eight)
 
-  left-counter : left .«sending_key_counter» ≡ x .«sending_key_counter»
-  unfolding withProgress
-  left-counter = of-choice (λ (y : Session). y .«sending_key_counter» ≡ x .«sending_key_counter») _ _ _ refl refl
-
-  left-index : left .«receiving_index» ≡ index
-  left-index = progress-index x _ ∙ in-slot .named
-
-  sessions-are : out .received .sessions ≡ put s left
-  unfolding answered
-  sessions-are = ap (λ (o : Outcome). o .received .sessions) goes
-
-  store-is : out .store ≡ putSlot store (slotOf (x .«receiving_index»)) (batchOf store x counters kinds .words)
-  store-is = ap (λ (o : Outcome). o .store) goes
-
-  left-at : slotAt (out .received .sessions) at ≡ left
-  left-at =
-      ap (λ (t : Sessions). slotAt t at) sessions-are ∙ ap (λ (i : ℕ). slotAt (put s left) (slotOf i)) (sym left-index) ∙ put-at s left store (w .eight)
-
-  inserted-same : out .received .sessions .inserted ≡ s .inserted
+  inserted-same : put s left .inserted ≡ s .inserted
   unfolding put
-  inserted-same = ap (λ (t : Sessions). t .inserted) sessions-are
+  inserted-same = refl
 
-  eight-left : length (out .received .sessions .slots) ≡ length (s .slots)
-  eight-left = ap (λ (t : Sessions). length (t .slots)) sessions-are ∙ changed-put s left store (w .eight) .eight
+  size-left : length (storeAfter store x counters kinds) ≡ length store
+  size-left = slot-law store _ (slotOf (x .«receiving_index»)) (w .size) (omega arith) .whole ∙ sym (w .size)
 
-  size-left : length (out .store) ≡ length store
-  size-left =
-      ap length store-is
-      ∙ length-put store _ (slotOf (x .«receiving_index»)) (w .size) (omega arith)
-      (length-batch _ _ counters kinds ∙ slot-long store (slotOf (x .«receiving_index»)) (w .size) (omega arith))
-      ∙ sym (w .size)
-
-  module _ (i : ℕ → List ℕ) (mine : i id ≡ recordedAll (h id) counters (out .verdicts)) (others : (y : ℕ) → (y ≡ id → ⊥) → i y ≡ h y) where
-    pub held-judged : Held n i g (out .received .sessions) (out .store)
+  module _ (i : ℕ → List ℕ) (mine : i id ≡ recordedAll (h id) counters (batchOf store x counters kinds .verdicts)) (others : (y : ℕ) → (y ≡ id → ⊥) → i y ≡ h y) where
+    pub held-judged : Held n i g (put s left) (storeAfter store x counters kinds)
     held-judged =
-        let is : slotAt (out .received .sessions) at .id ≡ id = ap (λ (z : Session). z .id) left-at ∙ left-id ∙ named in
-        held-changed n n h i g g s (out .received .sessions) store (out .store) at w
+        let is : slotAt (put s left) at .id ≡ id = ap (λ (z : Session). z .id) left-at ∙ named in
+        held-changed n n h i g g s (put s left) store (storeAfter store x counters kinds) at w
         (record {
-          eight = eight-left;
+          eight = changed-put s left store (w .eight) .eight;
           size = size-left;
-          others = λ k low d. (let y : Kept s _ store _ k = slots-apart s store k .batch index id now counters kinds verdicts d in (y .session, y .words));
+          others = λ k low d.
+              let other : k ≡ slotOf (x .«receiving_index») → ⊥ = λ o. d (o ∙ ap slotOf (in-slot .named)) in
+              (changed-put s left store (w .eight) .others k low other .0, slot-law store _ (slotOf (x .«receiving_index»)) (w .size) (omega arith) .other k other);
         })
         (omega arith)
         (inserted-same ∙ w .count)
         (record {
-          placed = ap (λ (z : Session). slotOf (z .«receiving_index»)) left-at ∙ ap slotOf left-index;
+          placed = ap (λ (z : Session). slotOf (z .«receiving_index»)) left-at ∙ ap slotOf (in-slot .named);
           named = rw (is, ← named) (own .named);
-          stands = rw (is, mine) (batch-judged .stands);
+          stands = rw (is, mine, ← in-slot .named) (judged-stands call x (h id) live);
           granted = ap (λ (k : ℕ). countersOf k g) (is ∙ sym named) ∙ own .granted
-              ∙ ap (λ (k : ℕ). upFrom 0 k) (sym (ap (λ (z : Session). z .«sending_key_counter») left-at ∙ left-counter));
+              ∙ ap (λ (k : ℕ). upFrom 0 k) (sym (ap (λ (z : Session). z .«sending_key_counter») left-at));
         })
         (λ k low d q p. d (w .apart k at low (omega arith) q filled-at (p ∙ is ∙ sym named ∙ ap (λ (z : Session). z .id) (sym (in-slot .stored)))))
         (λ y d. others y (λ q. d (q ∙ sym is)))

@@ -9,28 +9,30 @@ use lib.Dec.{leb}
 use lib.ListN.{length}
 use borrow.Author.Tests.{leb-true}
 use Rattle.base.specs.Choice.{choose}
-use Rattle.control.proofs.SoundSteps.{known-found, known-reserved, sending-current}
-use Rattle.control.proofs.Steps.{of-choice}
-use Rattle.control.specs.Control.{outcome, done, withSessions, withTimers}
-use Rattle.control.specs.Transport.{beginEncapsulate, finishEncapsulate, grant, send, encrypted, encryptKeepalive}
-use Rattle.control.specs.declared.answer.Answer.the-variants.{No, Granted}
-use Rattle.control.specs.declared.control.Control.{Control}
-use Rattle.control.specs.declared.control.Out.{Out}
-use Rattle.control.specs.declared.transport.Datagram.the-variants.{Skipped, Sent}
-use Rattle.control.specs.declared.transport.Encrypted.{Encrypted}
+use Rattle.sessions.specs.Cases.{known-found, known-reserved}
+use Rattle.sessions.proofs.Laws.{lookup-law}
+use Rattle.base.proofs.Choice.{of-choice}
+use Rattle.tunnel.specs.Control.{outcome, done, withSessions, withTimers}
+use Rattle.tunnel.specs.Encapsulate.{beginEncapsulate, finishEncapsulate, grant, send, encrypted, encryptKeepalive}
+use Rattle.tunnel.specs.declared.answer.Answer.the-variants.{No, Granted}
+use Rattle.tunnel.specs.declared.control.Control.{Control}
+use Rattle.tunnel.specs.declared.control.Out.{Out}
+use Rattle.tunnel.specs.declared.encapsulate.Datagram.the-variants.{Skipped, Sent}
+use Rattle.tunnel.specs.declared.encapsulate.Encrypted.{Encrypted}
 use Rattle.demands.proofs.Changes.{Alike, changed-on, held-marked, held-granted}
 use Rattle.demands.proofs.Held.{Changed}
 use Rattle.demands.proofs.Known.{Known, plain-of, Idle, idle-refused}
-use Rattle.demands.proofs.Moves.{InSlot, current-slot, put-at, changed-put}
+use Rattle.sessions.specs.Laws.{InSlot}
+use Rattle.demands.proofs.Moves.{put-at, changed-put}
 use Rattle.demands.specs.Made.{caseAnswer}
 use Rattle.demands.specs.Sending.{Grant, granting}
-use Rattle.parts.specs.Timers.{tickLastPacketSent}
-use Rattle.session.specs.Index.{slotOf}
-use Rattle.session.specs.Range.{range}
-use Rattle.session.specs.Session.{withCounter, reserveCounters, preparePacketData}
+use Rattle.tunnel.specs.Timers.{tickLastPacketSent}
+use Rattle.sessions.specs.Index.{slotOf}
+use Rattle.sessions.specs.Range.{range}
+use Rattle.sessions.specs.Session.{withCounter, reserveCounters, preparePacketData}
 use Rattle.sessions.specs.Sessions.{slotAt, put, currentOf, sendingSession}
-use Rattle.session.specs.declared.session.Reserved.the-variants.{TooFew, First}
-use Rattle.session.specs.declared.session.Session.{Session}
+use Rattle.sessions.specs.declared.session.Reserved.the-variants.{TooFew, First}
+use Rattle.sessions.specs.declared.session.Session.{Session}
 use Rattle.sessions.specs.declared.sessions.Found.the-variants.{Got}
 use Rattle.sessions.specs.declared.sessions.Sessions.{Sessions}
 use Rattle.window.specs.Window.{limit}
@@ -67,7 +69,7 @@ module _ (c d : Control) (store : List ℕ) (x : Session) (len : ℕ) (current :
   at = slotOf (x .«receiving_index»)
 
   in-slot : InSlot (c .sessions) (x .«receiving_index») x
-  in-slot = current-slot (c .sessions) x current
+  in-slot = lookup-law (c .sessions) .current x current
 
   grants-at : (y : Session) → Alike x y → y .«sending_key_counter» ≡ x .«sending_key_counter» + len
       → ((n : ℕ) → length (c .sessions .slots) ≡ n → n ≡ 8 → Changed (c .sessions) (d .sessions) store store at × (slotAt (d .sessions) at ≡ y))
@@ -127,7 +129,7 @@ module _ (c : Control) (store : List ℕ) (now : ℕ) where
   encrypts =
       known-found (λ (e : Encrypted). Encrypts c store e) (sendingSession (c .sessions) now) _ _ (skips refl refl)
       (λ x p. known-reserved (λ (e : Encrypted). Encrypts c store e) (reserveCounters x 1) _ _ (skips refl refl)
-      (λ first y q. sends-counted x y first (sending-current (c .sessions) now x p) (reserved x 1 first y q)))
+      (λ first y q. sends-counted x y first (lookup-law (c .sessions) .sending now x p) (reserved x 1 first y q)))
 
 -- a send that grants nothing, or a range of the current session
 pub data Sends (c : Control) (store : List ℕ) (out : Out) : Type 0 where
@@ -144,7 +146,7 @@ module _ (c : Control) (store : List ℕ) (x : Session) (count now : ℕ) (curre
       record {
         known = λ n h g k w.
             record {
-              held = held-marked n h g (c .sessions) _ store (w .held) x (preparePacketData x) (current-slot (c .sessions) x current)
+              held = held-marked n h g (c .sessions) _ store (w .held) x (preparePacketData x) (lookup-law (c .sessions) .current x current)
                   (record { id = refl; index = refl; next = refl }) (changed-put (c .sessions) (preparePacketData x) store (w .held .eight))
                   (put-at (c .sessions) (preparePacketData x) store (w .held .eight)) refl refl;
               queue = w .queue;
@@ -170,4 +172,4 @@ unfolding send
 sends-some c store count now =
     of-choice (λ (o : Out). Sends c store o) _ _ _ (none (idle-refused c store 11))
     (known-found (λ (o : Out). Sends c store o) (sendingSession (c .sessions) now) _ _ (none (idle-refused c store 12))
-    (λ x p. sends-grant c store x count now (sending-current (c .sessions) now x p)))
+    (λ x p. sends-grant c store x count now (lookup-law (c .sessions) .sending now x p)))

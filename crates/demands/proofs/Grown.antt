@@ -4,7 +4,7 @@ use mathlib.Core.List.{List, [], _∷_}
 use Rattle.demands.specs.Calls.Call.{start, restart, send, receive, look, initiation, response, cookie, timeout, event, deadline, missing}
 use Rattle.demands.specs.Calls.{Call, World, step, after, Creation, created}
 use Rattle.demands.specs.Grown.{Grown}
-use Rattle.tunnel.proofs.SoundCalls.{sound-law, created-law}
+use Rattle.tunnel.proofs.Laws.{sound-law, created-law}
 use Rattle.tunnel.specs.Sound.{Sound}
 
 -- a step

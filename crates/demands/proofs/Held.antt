@@ -2,40 +2,30 @@
 -- told apart by id.
 -- Assumes nothing.
 use mathlib.Core.Path.{_≡_, refl, ap, sym, _∙_}
-use mathlib.Core.Bool.{true}
-use mathlib.Core.List.{List, [], _∷_, _++_, append-assoc}
-use Prim.Native.Nat.{ℕ, zero, suc, _+_, _≤_, _<_}
+use mathlib.Core.Bool.{true, true≢false}
+use mathlib.Core.List.{List, [], _∷_, _++_, append-assoc, append-nil}
+use Prim.Native.Nat.{ℕ, _+_, _≤_, _<_}
 use native.Mathlib.Decide.{ℕ-discrete}
 use native.Mathlib.Omega.{arith}
 use lib.Dec.{eqb}
 use lib.ListN.{length}
 use borrow.Author.Tests.{eq-eqb, ne-eqb}
 use Rattle.base.specs.Choice.{choose}
-use Rattle.demands.specs.Sending.{Grant, granting, upFrom, countersOf}
-use Rattle.session.specs.Index.{slotOf}
+use Rattle.base.specs.Lists.{upFrom}
+use Rattle.demands.specs.Sending.{Grant, granting, countersOf}
+use Rattle.sessions.specs.Index.{slotOf}
 use Rattle.sessions.specs.Sessions.{slotAt}
-use Rattle.session.specs.Store.{slotWords}
-use Rattle.session.specs.declared.session.Session.{Session}
+use Rattle.sessions.specs.Store.{slotWords}
+use Rattle.sessions.specs.declared.session.Session.{Session}
 use Rattle.sessions.specs.declared.sessions.Sessions.{Sessions}
 use Rattle.window.specs.History.{Represents}
 use Rattle.window.specs.Window.{limit}
+use Rattle.sessions.specs.Session.{emptySession}
 
--- numbers from one on, and those that go on from there
-pub from-on : (a m n : ℕ) → upFrom a m ++ upFrom (a + m) n ≡ upFrom a (m + n)
-unfolding upFrom
-from-on a zero n =
-    let here : a + 0 ≡ a = omega arith in
-    let all : n ≡ 0 + n = omega arith in
-    ap (λ (x : ℕ). upFrom x n) here ∙ ap (λ (x : ℕ). upFrom a x) all
-from-on a (suc m) n =
-    let here : a + suc m ≡ suc a + m = omega arith in
-    let all : suc (m + n) ≡ suc m + n = omega arith in
-    ap (λ (l : List ℕ). a ∷ l) (ap (λ (x : ℕ). upFrom (suc a) m ++ upFrom x n) here ∙ from-on (suc a) m n) ∙ ap (λ (x : ℕ). upFrom a x) all
-
-pub long-from : (a n : ℕ) → length (upFrom a n) ≡ n
-unfolding upFrom
-long-from a zero = refl
-long-from a (suc n) = ap suc (long-from (suc a) n)
+-- a filled slot is not an empty one
+pub not-empty : (x : Session) → x ≡ emptySession → x .filled ≡ true → ⊥
+unfolding emptySession
+not-empty x e f = true≢false (sym f ∙ rw e)
 
 -- the counters of grants, and of those that follow
 pub counters-on : (id : ℕ) (g h : List Grant) → countersOf id (g ++ h) ≡ countersOf id g ++ countersOf id h
@@ -45,14 +35,9 @@ counters-on id (x ∷ g) h =
     ap (λ (l : List ℕ). choose (eqb (x .id) id) (upFrom (x .first) (x .length)) [] ++ l) (counters-on id g h)
     ∙ sym (append-assoc (choose (eqb (x .id) id) (upFrom (x .first) (x .length)) []) (countersOf id g) (countersOf id h))
 
-module _ {A : Type 0} where
-  pub append-nothing : (l : List A) → l ++ [] ≡ l
-  append-nothing [] = refl
-  append-nothing (x ∷ l) = ap (λ (r : List A). x ∷ r) (append-nothing l)
-
 pub counters-own : (id peer first n : ℕ) → countersOf id (granting id peer first n ∷ []) ≡ upFrom first n
 unfolding countersOf choose
-counters-own id peer first n = rw (eq-eqb id id refl) (append-nothing (upFrom first n))
+counters-own id peer first n = rw (eq-eqb id id refl) (append-nil (upFrom first n))
 
 pub counters-other : (id own peer first n : ℕ) → (own ≡ id → ⊥) → countersOf id (granting own peer first n ∷ []) ≡ []
 unfolding countersOf choose

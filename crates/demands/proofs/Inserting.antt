@@ -7,32 +7,31 @@ use Prim.Native.Nat.{ℕ, _+_, _^_, _<_}
 use native.Mathlib.Omega.{arith}
 use lib.Dec.{eqb}
 use lib.ListN.{length}
-use Rattle.control.proofs.Responses.{keepalive-sent, confirming-sessions, stored, response-current, response-good}
-use Rattle.control.proofs.SoundSteps.{SoundControl}
-use Rattle.control.proofs.Steps.{of-choice}
-use Rattle.control.specs.Control.{Turn, refuse, done, withSessions}
-use Rattle.control.specs.Messages.{responding, respond, handleHandshakeInitiation, confirming, complete, handleHandshakeResponse}
-use Rattle.control.specs.Transport.{encryptKeepalive}
-use Rattle.control.specs.declared.answer.Answer.the-variants.{Response, Keepalive}
-use Rattle.control.specs.declared.control.Control.{Control}
-use Rattle.control.specs.declared.control.Out.{Out}
-use Rattle.control.specs.declared.transport.Datagram.the-variants.{Sent}
-use Rattle.control.specs.declared.transport.Encrypted.{Encrypted}
+use Rattle.tunnel.specs.Laws.{establishing, confirmedBy, ResponseLaw}
+use Rattle.base.proofs.Choice.{of-choice}
+use Rattle.tunnel.specs.Control.{Turn, refuse, done, withSessions, withHandshake}
+use Rattle.tunnel.specs.HandleHandshake.{responding, respond, handleHandshakeInitiation, confirming, complete, handleHandshakeResponse}
+use Rattle.tunnel.specs.Encapsulate.{encryptKeepalive}
+use Rattle.tunnel.specs.declared.answer.Answer.the-variants.{Response, Keepalive}
+use Rattle.tunnel.specs.declared.control.Control.{Control}
+use Rattle.tunnel.specs.declared.control.Out.{Out}
+use Rattle.tunnel.specs.declared.encapsulate.Datagram.the-variants.{Sent}
+use Rattle.tunnel.specs.declared.encapsulate.Encrypted.{Encrypted}
 use Rattle.demands.proofs.Changes.{held-inserted}
 use Rattle.demands.proofs.Granting.Encrypts.{skips, sends}
 use Rattle.demands.proofs.Granting.{Encrypts, encrypts}
 use Rattle.demands.proofs.Known.{Known, known-as, Idle, idle-refused, known-carried, known-confirmed}
 use Rattle.demands.proofs.Moves.{carried-next, carried-current}
 use Rattle.demands.specs.Sending.{Grant, granting}
-use Rattle.parts.specs.Handshake.{caseCompleted, receiveHandshakeInitialization, receiveHandshakeResponse}
-use Rattle.parts.specs.declared.handshake.Completed.the-variants.{Failed, Opened}
-use Rattle.parts.specs.declared.handshake.Completed.{Completed}
-use Rattle.parts.specs.declared.handshake.Handshake.{Handshake}
-use Rattle.session.specs.Session.{newSession, withId}
-use Rattle.sessions.proofs.Received.{got-same}
+use Rattle.tunnel.specs.Cases.{caseCompleted}
+use Rattle.tunnel.specs.Handshake.{receiveHandshakeInitialization, receiveHandshakeResponse}
+use Rattle.tunnel.specs.declared.handshake.Completed.the-variants.{Failed, Opened}
+use Rattle.tunnel.specs.declared.handshake.Completed.{Completed}
+use Rattle.tunnel.specs.declared.handshake.Handshake.{Handshake}
+use Rattle.sessions.specs.Session.{newSession, withId}
 use Rattle.sessions.specs.Sessions.{currentOf, insert, nextIndex}
-use Rattle.session.specs.declared.session.Role.the-variants.{Initiator, Responder}
-use Rattle.session.specs.declared.session.Session.{Session}
+use Rattle.sessions.specs.declared.session.Role.the-variants.{Initiator, Responder}
+use Rattle.sessions.specs.declared.session.Session.{Session}
 use Rattle.sessions.specs.declared.sessions.Found.the-variants.{Got}
 
 -- what a handshake message does: nothing is inserted, a session is inserted, or one is inserted that grants its first counter
@@ -114,27 +113,27 @@ sent-peer a b x y e = cc
 sent-counter : (a b x y : ℕ) → Sent a b ≡ Sent x y → b ≡ y
 sent-counter a b x y e = cc
 
+got-same : (x y : Session) → Got x ≡ Got y → x ≡ y
+got-same x y e = cc
+
 same-grant : (g : List Grant) (i j a b x y : ℕ) → i ≡ j → a ≡ b → x ≡ y → g ++ granting i a x 1 ∷ [] ≡ g ++ granting j b y 1 ∷ []
 same-grant g i j a b x y p q r = cc
 
 -- a response
-module _ (c : Control) (store : List ℕ) (receiver peer now : ℕ) (sound : SoundControl c now) (long : length store ≡ 1024) (handshake : Handshake) where
+module _ (c : Control) (store : List ℕ) (receiver peer now : ℕ) (handshake : Handshake) (law : ResponseLaw c handshake store receiver peer now) where
   abbrev new : Session
-  new = newSession receiver peer Initiator now
+  new = establishing receiver peer now
 
   abbrev ended : Control
-  ended = confirming (stored c handshake store receiver peer now sound long) receiver now
+  ended = confirmedBy c handshake store receiver peer now
 
   abbrev left : List ℕ
   left = insert (c .sessions) store new .store
 
-  current : currentOf (ended .sessions) ≡ Got (withId new (c .sessions .inserted))
-  current = ap currentOf (confirming-sessions _ receiver now) ∙ response-current c handshake store receiver peer now sound long
-
   known-confirming : (n : ℕ) (h : ℕ → List ℕ) (g k : List Grant) → n + 1 < 2 ^ 64 → Known n h g k c store → Known (n + 1) h g k ended left
   unfolding confirming newSession
   known-confirming n h g k few w =
-      let a : Known (n + 1) h g k (stored c handshake store receiver peer now sound long) left = known-inserted n h g k c _ store few w new refl refl refl refl refl in
+      let a : Known (n + 1) h g k (withSessions (withHandshake c handshake) (insert (c .sessions) store new .sessions)) left = known-inserted n h g k c _ store few w new refl refl refl refl refl in
       known-confirmed (n + 1) h g k _ _ now left (known-carried (n + 1) h g k _ _ left left (carried-current _ left receiver) refl a)
 
   -- the keepalive is the new session's first counter
@@ -143,7 +142,7 @@ module _ (c : Control) (store : List ℕ) (receiver peer now : ℕ) (sound : Sou
       → Known (n + 1) h (g ++ granting (c .sessions .inserted) peer 0 1 ∷ []) k (e .control) left
   of-encrypted e (skips p q) s n h g k few w = let z : _≡_ {A = ℕ} 0 1 = cc in absurd (omega arith)
   of-encrypted e (sends x to first v q r) s n h g k few w =
-      let p : x ≡ withId new (c .sessions .inserted) = got-same _ _ (sym (v .current) ∙ current) in
+      let p : x ≡ withId new (c .sessions .inserted) = got-same _ _ (sym (v .current) ∙ law .current) in
       let a : to ≡ peer = sent-peer to first peer 0 (sym q ∙ s) in
       let b : first ≡ 0 = sent-counter to first peer 0 (sym q ∙ s) in
       let i : x .id ≡ c .sessions .inserted = ap (λ (y : Session). y .id) p in
@@ -151,16 +150,13 @@ module _ (c : Control) (store : List ℕ) (receiver peer now : ℕ) (sound : Sou
       known-as (n + 1) _ h _ _ k _ (e .control) left refl (same-grant g _ _ _ _ _ _ (sym i) (sym a) (sym b)) refl o
 
   completed : Inserts c store (record { out = complete c handshake store new receiver now; store = left })
-  unfolding done newSession
+  unfolding done
   completed =
-      let e : complete c handshake store new receiver now ≡ done (encryptKeepalive ended now .control) (Keepalive peer 0) =
-      response-good c handshake store receiver peer now sound long in
-      completes peer 0 (ap (λ (o : Out). o .answer) e)
-      (λ n h g k few w. rw e (of-encrypted (encryptKeepalive ended now) (encrypts ended left now)
-      (keepalive-sent ended (withId new (c .sessions .inserted)) now current refl refl) n h g k few w))
+      completes peer 0 (ap (λ (o : Out). o .answer) (law .answer))
+      (λ n h g k few w. rw (law .answer) (of-encrypted (encryptKeepalive ended now) (encrypts ended left now) (law .first) n h g k few w))
 
 -- the handshake completed by a response, or not
-module _ (c : Control) (store : List ℕ) (receiver peer outcome now : ℕ) (sound : SoundControl c now) (long : length store ≡ 1024) where
+module _ (c : Control) (store : List ℕ) (receiver peer outcome now : ℕ) (law : (handshake : Handshake) → ResponseLaw c handshake store receiver peer now) where
   abbrev of-answer : Completed → Turn
   of-answer x =
       caseCompleted x (λ number. record { out = refuse c number; store = store })
@@ -168,7 +164,7 @@ module _ (c : Control) (store : List ℕ) (receiver peer outcome now : ℕ) (sou
 
   response-opened : (handshake : Handshake) → Inserts c store (of-answer (Opened handshake (newSession receiver peer Initiator now)))
   unfolding caseCompleted
-  response-opened handshake = completed c store receiver peer now sound long handshake
+  response-opened handshake = completed c store receiver peer now handshake (law handshake)
 
   response-failed : (number : ℕ) → Inserts c store (of-answer (Failed number))
   unfolding caseCompleted

@@ -2,31 +2,32 @@
 -- Assumes nothing.
 use mathlib.Core.Path.{_≡_, refl}
 use mathlib.Core.Bool.{Bool, false}
-use mathlib.Core.List.{List, [], _++_}
+use mathlib.Core.List.{List, [], _++_, append-nil}
 use Prim.Native.Nat.{ℕ, _+_}
 use native.Mathlib.Omega.{arith}
-use Rattle.control.proofs.Steps.{of-choice, of-found}
-use Rattle.control.specs.Control.{withHandshake, outcome, refuse, done, queueing, pollEvent, missingReport}
-use Rattle.control.specs.Messages.{initiate, initiating, handleCookieReply, restartHandshake, startHandshake}
-use Rattle.control.specs.Transport.{beginDecapsulate, confirmFirstSession}
-use Rattle.control.specs.declared.answer.Answer.the-variants.{No, Done, NoAnswer, Initiation, Response, Keepalive, Granted, Polled, Deadline, Report}
-use Rattle.control.specs.declared.answer.Answer.{Answer}
-use Rattle.control.specs.declared.control.Control.{Control}
-use Rattle.control.specs.declared.control.Out.{Out}
-use Rattle.demands.proofs.Held.{append-nothing, Held, held-carried, Carried}
+use Rattle.base.proofs.Choice.{of-choice}
+use Rattle.sessions.specs.Cases.{of-found, caseMissing}
+use Rattle.tunnel.specs.Control.{withHandshake, outcome, refuse, done, queueing, pollEvent, missingReport}
+use Rattle.tunnel.specs.InitiateHandshake.{initiate, initiating, restartHandshake, startHandshake}
+use Rattle.tunnel.specs.HandleHandshake.{handleCookieReply}
+use Rattle.tunnel.specs.Decapsulate.{beginDecapsulate, confirmFirstSession}
+use Rattle.tunnel.specs.declared.answer.Answer.the-variants.{No, Done, NoAnswer, Initiation, Response, Keepalive, Granted, Polled, Deadline, Report}
+use Rattle.tunnel.specs.declared.answer.Answer.{Answer}
+use Rattle.tunnel.specs.declared.control.Control.{Control}
+use Rattle.tunnel.specs.declared.control.Out.{Out}
+use Rattle.demands.proofs.Held.{Held, held-carried, Carried}
 use Rattle.demands.proofs.Moves.{carried-next}
 use Rattle.demands.proofs.Queued.{EventGranted, Queue, queue-push, queue-pop}
 use Rattle.demands.specs.Calls.{World}
 use Rattle.demands.specs.Made.{caseAnswer, inserts}
 use Rattle.demands.specs.Sending.{Grant, answeredGrant}
-use Rattle.parts.specs.Handshake.{caseCookie}
-use Rattle.parts.specs.declared.event.Event.the-variants.{Established}
-use Rattle.parts.specs.declared.event.Event.{Event}
-use Rattle.parts.specs.declared.handshake.Cookie.the-variants.{Unusable, Stored}
-use Rattle.parts.specs.declared.handshake.Cookie.{Cookie}
-use Rattle.sessions.specs.Sessions.{caseMissing}
-use Rattle.session.specs.declared.range.Range.{Range}
-use Rattle.session.specs.declared.session.Time.{Time}
+use Rattle.tunnel.specs.Cases.{caseCookie}
+use Rattle.tunnel.specs.declared.event.Event.the-variants.{Established}
+use Rattle.tunnel.specs.declared.event.Event.{Event}
+use Rattle.tunnel.specs.declared.handshake.Cookie.the-variants.{Unusable, Stored}
+use Rattle.tunnel.specs.declared.handshake.Cookie.{Cookie}
+use Rattle.sessions.specs.declared.range.Range.{Range}
+use Rattle.sessions.specs.declared.session.Time.{Time}
 use Rattle.sessions.specs.declared.sessions.Missing.the-variants.{Refused, Count}
 use Rattle.sessions.specs.declared.sessions.Missing.{Missing}
 
@@ -64,7 +65,7 @@ known-as n m h g f k l c store p q r w = rw (p, q, r) w
 pub known-same : (n m : ℕ) (h : ℕ → List ℕ) (g a k v : List Grant) (c : Control) (store : List ℕ) → m ≡ 0 → a ≡ [] → v ≡ []
     → Known n h g k c store → Known (n + m) h (g ++ (a ++ v)) (k ++ v) c store
 known-same n m h g a k v c store e p q w =
-    known-as n _ h g _ k _ c store (omega (arith, e)) (rw (p, q) (append-nothing g)) (rw q (append-nothing k)) w
+    known-as n _ h g _ k _ c store (omega (arith, e)) (rw (p, q) (append-nil g)) (rw q (append-nil k)) w
 
 -- what an operation that inserts, commits and grants nothing hands back
 pub record Idle (c : Control) (store : List ℕ) (out : Out) (left : List ℕ) : Type 0 where

@@ -1,11 +1,13 @@
 pub mod Admits
 pub mod After
+pub mod BatchExample
 pub mod Changes
 pub mod Example
 pub mod Granting
 pub mod Grown
 pub mod Held
 pub mod Inserting
+pub mod Judged
 pub mod Judging
 pub mod Known
 pub mod Missing
@@ -14,7 +16,7 @@ pub mod Queued
 pub mod Ran
 pub mod Receiving
 pub mod Sending
-pub mod Setting
+pub mod Settings
 pub mod Stepped
 pub mod Twins
 pub mod Verdicts

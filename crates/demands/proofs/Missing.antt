@@ -7,8 +7,8 @@ use Prim.Native.Nat.{ℕ, _-_, _<_}
 use lib.ListN.{length}
 use borrow.Author.Tests.{eq-eqb}
 use Rattle.base.specs.Choice.{choose}
-use Rattle.control.specs.Control.{missingReport}
-use Rattle.control.specs.declared.answer.Answer.the-variants.{Report}
+use Rattle.tunnel.specs.Control.{missingReport}
+use Rattle.tunnel.specs.declared.answer.Answer.the-variants.{Report}
 use Rattle.demands.proofs.After.{known-run}
 use Rattle.demands.proofs.Grown.{sound-after, sound-created}
 use Rattle.demands.proofs.Held.{SlotHeld}
@@ -17,11 +17,12 @@ use Rattle.demands.specs.Calls.Call.{missing}
 use Rattle.demands.specs.Calls.{World, step, after, created}
 use Rattle.demands.specs.Missing.{MissingReport}
 use Rattle.demands.specs.Sending.{Grant}
-use Rattle.sessions.proofs.Judged.{missing-law}
+use Rattle.demands.proofs.Judged.{count-law}
 use Rattle.sessions.specs.Sessions as sessions
-use Rattle.sessions.specs.Sessions.{caseFound, caseMissing, slotAt, inSlotOf, get}
-use Rattle.session.specs.Store.{slotWords}
-use Rattle.session.specs.declared.session.Session.{Session}
+use Rattle.sessions.specs.Cases.{caseFound, caseMissing}
+use Rattle.sessions.specs.Sessions.{slotAt, inSlotOf, get}
+use Rattle.sessions.specs.Store.{slotWords}
+use Rattle.sessions.specs.declared.session.Session.{Session}
 use Rattle.sessions.specs.declared.sessions.Found.the-variants.{Got}
 use Rattle.sessions.specs.declared.sessions.Missing.the-variants.{Count}
 use Rattle.sessions.specs.declared.sessions.Sessions.{Sessions}
@@ -49,7 +50,7 @@ module _ (w : World) (n : ℕ) (h : ℕ → List ℕ) (g k : List Grant) (y : Kn
   unfolding sessions.missing caseFound choose
   counted =
       rw (eq-eqb (length (w .store)) 1024 (y .held .size), found, its .placed)
-      (ap Count (missing-law (h (x .id)) (slotWords (w .store) slot) (x .next) (its .stands) .counts))
+      (ap Count (count-law (h (x .id)) (slotWords (w .store) slot) (x .next) (its .stands) .counts))
 
   passes : timelessGate (w .tunnel) (lacking (w .store)) ≡ 0
   unfolding timelessGate lacking choose

@@ -11,17 +11,19 @@ use lib.ListN.{length, getD, set, length-set, getD-replicate, length-replicate}
 use lib.Seq.{getD-set-same, getD-set-other}
 use borrow.Author.Tests.{eqb-true}
 use Rattle.base.specs.Choice.{choose}
-use Rattle.control.proofs.Steps.{not-empty, of-choice, of-found}
-use Rattle.demands.proofs.Held.{Carried, carried-same, carried-on, Changed}
-use Rattle.session.proofs.Words.{length-zeros, length-put}
-use Rattle.sessions.proofs.Apart.{kept-other}
+use Rattle.base.proofs.Choice.{of-choice}
+use Rattle.sessions.specs.Cases.{of-found, caseFound, caseSelected}
+use Rattle.demands.proofs.Held.{not-empty, Carried, carried-same, carried-on, Changed}
+use Rattle.base.proofs.Zeros.{length-zeros}
+use Rattle.sessions.proofs.Laws.{slot-law}
 use Rattle.sessions.specs.Batch.{receivingSession}
-use Rattle.session.specs.Index.{slotOf}
+use Rattle.sessions.specs.Index.{slotOf}
 use Rattle.sessions.specs.Laws.{Kept}
-use Rattle.session.specs.Session.{emptySession, expiredAt}
-use Rattle.sessions.specs.Sessions.{caseFound, caseSelected, slotAt, emptySlots, Held, inSlotOf, get, put, currentOf, nextIndex, select, setCurrent, clear, emptied, Expiring, discard, expireSlot, expireFirst, expire, insert}
-use Rattle.session.specs.Store.{putSlot, zeros}
-use Rattle.session.specs.declared.session.Session.{Session}
+use Rattle.sessions.specs.Session.{emptySession, expiredAt}
+use Rattle.sessions.specs.Sessions.{slotAt, emptySlots, Held, inSlotOf, get, put, currentOf, nextIndex, select, setCurrent, clear, emptied, Expiring, discard, expireSlot, expireFirst, expire, insert}
+use Rattle.sessions.specs.Store.{putSlot}
+use Rattle.base.specs.Lists.{zeros}
+use Rattle.sessions.specs.declared.session.Session.{Session}
 use Rattle.sessions.specs.declared.sessions.Expired.{Expired}
 use Rattle.sessions.specs.declared.sessions.Found.the-variants.{Nothing, Got}
 use Rattle.sessions.specs.declared.sessions.Found.{Found}
@@ -57,68 +59,6 @@ module _ (s : Sessions) (store : List ℕ) (index : ℕ) where
       (of-found (λ (t : Sessions). Carried s t store store) _ _ _ (carried-same s store)
       (λ fresh. of-found (λ (t : Sessions). Carried s t store store) _ _ _ selected
       (λ current. of-choice (λ (t : Sessions). Carried s t store store) _ _ _ (carried-same s store) selected)))
-
--- what a lookup finds is in its slot
-module _ (s : Sessions) where
-  chosen : (f : Bool) (x y : Session) → choose f (Got x) Nothing ≡ Got y → (f ≡ true) × (x ≡ y)
-  unfolding choose
-  chosen true x y e = (refl, (cc))
-  chosen false x y e = let z : _≡_ {A = ℕ} 0 1 = cc in absurd (omega arith)
-
-  -- a filled slot with this index
-  pub record InSlot (index : ℕ) (x : Session) : Type 0 where
-    pub stored : slotAt s (slotOf index) ≡ x
-    pub filled : x .filled ≡ true
-    pub named : x .«receiving_index» ≡ index
-
-  got-in : (index : ℕ) (found : Found) (x : Session) → inSlotOf s index ≡ found
-      → caseFound found Nothing (λ (y : Session). choose (eqb (y .«receiving_index») index) (Got y) Nothing) ≡ Got x → InSlot index x
-  unfolding inSlotOf caseFound
-  got-in index Nothing x p q = let z : _≡_ {A = ℕ} 0 1 = cc in absurd (omega arith)
-  got-in index (Got y) x p q =
-      let a : (slotAt s (slotOf index) .filled ≡ true) × (slotAt s (slotOf index) ≡ y) = chosen _ _ _ p in
-      let b : (eqb (y .«receiving_index») index ≡ true) × (y ≡ x) = chosen _ _ _ q in
-      record {
-        stored = a .1 ∙ b .1;
-        filled = ap (λ (z : Session). z .filled) (sym (a .1 ∙ b .1)) ∙ a .0;
-        named = ap (λ (z : Session). z .«receiving_index») (sym (b .1)) ∙ eqb-true _ _ (b .0);
-      }
-
-  pub got-slot : (index : ℕ) (x : Session) → get s index ≡ Got x → InSlot index x
-  unfolding get
-  got-slot index x e = got-in index (inSlotOf s index) x refl e
-
-  same-index : (i j : ℕ) (x : Session) → j ≡ i → InSlot i x → InSlot j x
-  same-index i j x e y = rw e y
-
-  current-in : (selected : Selected) (x : Session) → caseSelected selected Nothing (λ (i : ℕ). get s i) ≡ Got x → InSlot (x .«receiving_index») x
-  unfolding caseSelected
-  current-in Unset x e = let z : _≡_ {A = ℕ} 0 1 = cc in absurd (omega arith)
-  current-in (Index i) x e = let y : InSlot i x = got-slot i x e in same-index i _ x (y .named) y
-
-  pub current-slot : (x : Session) → currentOf s ≡ Got x → InSlot (x .«receiving_index») x
-  unfolding currentOf
-  current-slot x e = current-in (s .current) x e
-
-  -- the session that a batch is for
-  of-live : (a b : Bool) (x y : Session) → choose a (choose b Nothing (Got x)) Nothing ≡ Got y → (a ≡ true) × (x ≡ y)
-  unfolding choose
-  of-live true true x y e = let z : _≡_ {A = ℕ} 0 1 = cc in absurd (omega arith)
-  of-live true false x y e = (refl, (cc))
-  of-live false b x y e = let z : _≡_ {A = ℕ} 0 1 = cc in absurd (omega arith)
-
-  received-in : (index id now : ℕ) (found : Found) (x : Session) → get s index ≡ found
-      → caseFound found Nothing (λ (y : Session). choose (eqb (y .id) id) (choose (expiredAt y now) Nothing (Got y)) Nothing) ≡ Got x
-      → InSlot index x × (x .id ≡ id)
-  unfolding caseFound
-  received-in index id now Nothing x p q = let z : _≡_ {A = ℕ} 0 1 = cc in absurd (omega arith)
-  received-in index id now (Got y) x p q =
-      let a : (eqb (y .id) id ≡ true) × (y ≡ x) = of-live _ _ y x q in
-      (got-slot index x (p ∙ ap Got (a .1)), ap (λ (z : Session). z .id) (sym (a .1)) ∙ eqb-true _ _ (a .0))
-
-  pub received-slot : (index id now : ℕ) (x : Session) → receivingSession s index id now ≡ Got x → InSlot index x × (x .id ≡ id)
-  unfolding receivingSession
-  received-slot index id now x e = received-in index id now (get s index) x refl e
 
 -- slots emptied, and the current session as it was or none
 pub record Thinned (s last : Sessions) (store left : List ℕ) : Type 0 where
@@ -164,11 +104,11 @@ module _ (s last : Sessions) (store : List ℕ) (k : ℕ) (eight : length (s .sl
   carried-emptied e i =
       record {
         eight = ap length e ∙ length-set (s .slots) k emptySession;
-        size = length-put store (zeros 128) k size low (length-zeros 128) ∙ sym size;
+        size = slot-law store (zeros 128) k size low .whole ∙ sym size;
         count = i;
         slots = λ j high f. elim (ℕ-discrete j k) [
           | yes q ↦ absurd (not-empty _ (ap (λ (n : ℕ). slotAt last n) q ∙ ap (λ (l : List Session). getD l k emptySession) e ∙ getD-set-same (s .slots) k emptySession emptySession (omega arith)) f)
-          | no q ↦ (let y : Kept s last store (putSlot store k (zeros 128)) j = kept-other s store size j k low q last emptySession (zeros 128) (length-zeros 128) e in (y .session, y .words))
+          | no q ↦ (ap (λ (l : List Session). getD l j emptySession) e ∙ getD-set-other (s .slots) k j emptySession emptySession q, slot-law store (zeros 128) k size low .other j q)
         ];
       }
 

@@ -11,12 +11,12 @@ use borrow.Author.Tests.{eq-eqb, ne-eqb}
 use Rattle.base.specs.Choice.{choose}
 use Rattle.demands.specs.Sending.Among.{here, there}
 use Rattle.demands.specs.Sending.{Grant, Among, still, putLast}
-use Rattle.parts.proofs.Queue.{queue-of-newest}
-use Rattle.parts.specs.RingBuffer.{holding, placeOf, eventAt, newRing, storeAt, pushBack, popFront, queued, newest, oldest, Ring}
-use Rattle.parts.specs.declared.event.Event.the-variants.{Empty, SendKeepalive}
-use Rattle.parts.specs.declared.event.Event.{Event}
-use Rattle.parts.specs.declared.ring_buffer.RingBuffer.{RingBuffer}
-use Rattle.parts.specs.declared.ring_buffer.Slot.{Slot}
+use Rattle.tunnel.proofs.Laws.{queue-law}
+use Rattle.tunnel.specs.RingBuffer.{holding, placeOf, eventAt, newRing, storeAt, pushBack, popFront, queued, newest, oldest, Ring}
+use Rattle.tunnel.specs.declared.event.Event.the-variants.{Empty, SendKeepalive}
+use Rattle.tunnel.specs.declared.event.Event.{Event}
+use Rattle.tunnel.specs.declared.ring_buffer.RingBuffer.{RingBuffer}
+use Rattle.tunnel.specs.declared.ring_buffer.Slot.{Slot}
 
 -- an event, if it is a keepalive, was granted
 abbrev pub EventGranted : List Grant → Event → Type 0
@@ -59,19 +59,19 @@ module _ (g : List Grant) where
   all-drop (suc n) (e ∷ events) (more a b) = all-drop n events b
 
   pub queue-new : Queue g newRing
-  queue-new = record { ring = queue-of-newest .fresh; all = rw (queue-of-newest .begun) none }
+  queue-new = record { ring = queue-law .fresh; all = rw (queue-law .begun) none }
 
   module _ (r : RingBuffer) (q : Queue g r) where
     pub queue-push : (e : Event) → EventGranted g e → Queue g (pushBack r e)
     unfolding newest
     queue-push e a =
         record {
-          ring = queue-of-newest .still r e (q .ring);
-          all = rw (queue-of-newest .pushed r e (q .ring)) (all-drop (length (queued r ++ e ∷ []) - 16) (queued r ++ e ∷ []) (all-more (queued r) e (q .all) a));
+          ring = queue-law .still r e (q .ring);
+          all = rw (queue-law .pushed r e (q .ring)) (all-drop (length (queued r ++ e ∷ []) - 16) (queued r ++ e ∷ []) (all-more (queued r) e (q .all) a));
         }
 
     pub queue-pop : Queue g (popFront r .events)
-    queue-pop = record { ring = queue-of-newest .stays r (q .ring); all = rw (queue-of-newest .left r (q .ring)) (all-drop 1 _ (q .all)) }
+    queue-pop = record { ring = queue-law .stays r (q .ring); all = rw (queue-law .left r (q .ring)) (all-drop 1 _ (q .all)) }
 
     oldest-granted : (events : List Event) → AllGranted g events → EventGranted g (oldest events)
     unfolding oldest
@@ -79,7 +79,7 @@ module _ (g : List Grant) where
     oldest-granted (x ∷ events) (more a b) p c e = a p c e
 
     pub queue-polled : EventGranted g (popFront r .event)
-    queue-polled p c e = oldest-granted (queued r) (q .all) p c (sym (queue-of-newest .answered r (q .ring)) ∙ e)
+    queue-polled p c e = oldest-granted (queued r) (q .all) p c (sym (queue-law .answered r (q .ring)) ∙ e)
 
 -- nothing was put
 pub put-none : (r last : RingBuffer) → last ≡ r → putLast r last ≡ Empty

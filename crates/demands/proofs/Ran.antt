@@ -6,16 +6,16 @@ use mathlib.Core.List.{List}
 use Prim.Native.Nat.{ℕ}
 use lib.Dec.{ltb}
 use Rattle.base.specs.Choice.{choose}
-use Rattle.control.proofs.SoundOperations.{of-missing}
-use Rattle.control.proofs.Steps.{of-choice}
-use Rattle.control.specs.Control.{refuse, pollEvent, missingReport}
-use Rattle.control.specs.declared.control.Out.{Out}
+use Rattle.sessions.specs.Cases.{of-missing}
+use Rattle.base.proofs.Choice.{of-choice}
+use Rattle.tunnel.specs.Control.{refuse, pollEvent, missingReport}
+use Rattle.tunnel.specs.declared.control.Out.{Out}
 use Rattle.demands.proofs.Twins.{deadline-still}
 use Rattle.demands.specs.Calls.Call.{start, restart, send, receive, look, initiation, response, cookie, timeout, event, deadline, missing}
 use Rattle.demands.specs.Calls.{Call, World, step}
 use Rattle.demands.specs.Wakings.{Ran, took, ran}
-use Rattle.session.specs.Session.{timeLimit}
-use Rattle.tunnel.specs.Check.{undamaged}
+use Rattle.sessions.specs.Session.{timeLimit}
+use Rattle.tunnel.specs.Damage.{undamaged}
 use Rattle.tunnel.specs.Tunnel.{gate, timelessGate, refused, settled, timed, timeless, kept, timedTurn, timedBatch, callStart, callRestart, callSend, callReceive, callLook, callInitiation, callResponse, callCookie, callTimeout, callEvent, callMissing}
 use Rattle.tunnel.specs.declared.tunnel.Answered.{Answered}
 use Rattle.tunnel.specs.declared.tunnel.Tunnel.{Tunnel}

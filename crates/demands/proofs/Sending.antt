@@ -5,14 +5,15 @@ use mathlib.Core.List.{List, []}
 use Prim.Native.Nat.{ℕ, _≤_}
 use native.Mathlib.Omega.{arith}
 use lib.ListN.{length}
-use Rattle.control.proofs.Steps.{of-choice}
-use Rattle.control.specs.Control.{pollEvent}
-use Rattle.control.specs.declared.answer.Answer.the-variants.{Granted, Polled}
-use Rattle.control.specs.declared.control.Out.{Out}
+use Rattle.base.proofs.Choice.{of-choice}
+use Rattle.tunnel.specs.Control.{pollEvent}
+use Rattle.tunnel.specs.declared.answer.Answer.the-variants.{Granted, Polled}
+use Rattle.tunnel.specs.declared.control.Out.{Out}
 use Rattle.demands.proofs.After.{known-run}
 use Rattle.demands.proofs.Granting.Sends.{none, some}
 use Rattle.demands.proofs.Granting.{Sends, sends-some}
-use Rattle.demands.proofs.Held.{Runs, long-from}
+use Rattle.demands.proofs.Held.{Runs}
+use Rattle.base.proofs.Counting.{length-upFrom}
 use Rattle.demands.proofs.Known.{Known}
 use Rattle.demands.proofs.Queued.{queue-polled, put-none}
 use Rattle.demands.proofs.Stepped.{put, pushed, woke-step}
@@ -21,11 +22,12 @@ use Rattle.demands.proofs.Waked.{Waked}
 use Rattle.demands.specs.Calls.Call.{send, timeout, event}
 use Rattle.demands.specs.Calls.{Reply, World, step, after, created}
 use Rattle.demands.specs.Sending.Among.{here, there}
-use Rattle.demands.specs.Sending.{Grant, Among, currentIn, putBy, upFrom, Sending}
-use Rattle.parts.specs.declared.event.Event.the-variants.{Empty, SendKeepalive}
-use Rattle.parts.specs.declared.event.Event.{Event}
-use Rattle.session.specs.declared.range.Range.{Range}
-use Rattle.session.specs.declared.session.Session.{Session}
+use Rattle.demands.specs.Sending.{Grant, Among, currentIn, putBy, Sending}
+use Rattle.base.specs.Lists.{upFrom}
+use Rattle.tunnel.specs.declared.event.Event.the-variants.{Empty, SendKeepalive}
+use Rattle.tunnel.specs.declared.event.Event.{Event}
+use Rattle.sessions.specs.declared.range.Range.{Range}
+use Rattle.sessions.specs.declared.session.Session.{Session}
 use Rattle.sessions.specs.declared.sessions.Found.the-variants.{Got}
 use Rattle.tunnel.specs.Tunnel.{refused, settled, timed, timeless, callSend, callEvent}
 use Rattle.tunnel.specs.declared.tunnel.Answered.{Answered}
@@ -33,10 +35,10 @@ use Rattle.window.specs.Window.{limit}
 
 -- counters that run are the first ones
 runs-counts : (l : List ℕ) → Runs l → l ≡ upFrom 0 (length l)
-runs-counts l r = r .are ∙ ap (λ (i : ℕ). upFrom 0 i) (sym (ap length (r .are) ∙ long-from 0 (r .count)))
+runs-counts l r = r .are ∙ ap (λ (i : ℕ). upFrom 0 i) (sym (ap length (r .are) ∙ length-upFrom 0 (r .count)))
 
 runs-below : (l : List ℕ) → Runs l → length l ≤ limit
-runs-below l r = let e : length l ≡ r .count = ap length (r .are) ∙ long-from 0 (r .count) in omega (arith, e, r .below)
+runs-below l r = let e : length l ≡ r .count = ap length (r .are) ∙ length-upFrom 0 (r .count) in omega (arith, e, r .below)
 
 -- whose a grant is
 abbrev Whose : World → ℕ → Type 0

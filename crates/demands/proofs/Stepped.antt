@@ -2,25 +2,22 @@
 -- Assumes nothing.
 use mathlib.Core.Path.{_≡_, refl, sym, _∙_}
 use mathlib.Core.Bool.{Bool, true, false}
-use mathlib.Core.List.{List, [], _∷_, _++_}
+use mathlib.Core.List.{List, [], _∷_, _++_, append-nil}
 use Prim.Native.Nat.{ℕ, _+_, _^_, _<_}
 use native.Mathlib.Nat.{add-zero}
 use lib.Dec.{eqb}
 use borrow.Author.Tests.{eqb-true, eqb-false}
-use Rattle.base.proofs.Choice.{yes-eq, no-eq}
+use Rattle.base.proofs.Choice.{yes-eq, no-eq, of-choice}
 use Rattle.base.specs.Choice.{choose}
-use Rattle.control.proofs.SoundSteps.{sound-later}
-use Rattle.control.proofs.Steps.{of-choice}
-use Rattle.control.specs.Answer.{numberOf}
-use Rattle.control.specs.Control.{Turn, refuse, done}
-use Rattle.control.specs.Transport.{Batched}
-use Rattle.control.specs.declared.answer.Answer.the-variants.{No, Done}
-use Rattle.control.specs.declared.answer.Answer.{Answer}
-use Rattle.control.specs.declared.control.Control.{Control}
-use Rattle.control.specs.declared.control.Out.{Out}
+use Rattle.tunnel.specs.Answer.{numberOf}
+use Rattle.tunnel.specs.Control.{Turn, refuse, done}
+use Rattle.tunnel.specs.declared.answer.Answer.the-variants.{No, Done}
+use Rattle.tunnel.specs.declared.answer.Answer.{Answer}
+use Rattle.tunnel.specs.declared.control.Control.{Control}
+use Rattle.tunnel.specs.declared.control.Out.{Out}
 use Rattle.demands.proofs.Granting.Sends.{none, some}
 use Rattle.demands.proofs.Granting.{Sends, sends-some}
-use Rattle.demands.proofs.Held.{append-nothing, SlotHeld}
+use Rattle.demands.proofs.Held.{SlotHeld}
 use Rattle.demands.proofs.Inserting.Inserts.{nothing, responds, completes}
 use Rattle.demands.proofs.Inserting.{Inserts, inserts-initiation, inserts-response}
 use Rattle.demands.proofs.Judging.Judged.{turned, taken}
@@ -34,21 +31,22 @@ use Rattle.demands.specs.Calls.{Call, World, Reply, stored, judged, step
 use Rattle.demands.specs.Made.{caseBatch, caseWaking, caseAnswer, inserts}
 use Rattle.demands.specs.Receiving.{committing}
 use Rattle.demands.specs.Sending.{Grant, granting, currentIn, putLast, keepaliveBy, wokenGrant, answeredGrant}
-use Rattle.parts.specs.Event.{caseEvent}
-use Rattle.parts.specs.RingBuffer.{pushBack}
-use Rattle.parts.specs.declared.event.Event.the-variants.{Empty, SendKeepalive}
-use Rattle.parts.specs.declared.event.Event.{Event}
-use Rattle.sessions.specs.History.{recordedAll}
-use Rattle.sessions.specs.Sessions.{caseFound, currentOf}
-use Rattle.session.specs.declared.session.Session.{Session}
+use Rattle.tunnel.specs.Cases.{caseEvent}
+use Rattle.tunnel.specs.RingBuffer.{pushBack}
+use Rattle.tunnel.specs.declared.event.Event.the-variants.{Empty, SendKeepalive}
+use Rattle.tunnel.specs.declared.event.Event.{Event}
+use Rattle.demands.specs.History.{recordedAll}
+use Rattle.sessions.specs.Cases.{caseFound}
+use Rattle.sessions.specs.Sessions.{currentOf}
+use Rattle.sessions.specs.Batch.{Batched}
+use Rattle.sessions.specs.declared.session.Session.{Session}
 use Rattle.sessions.specs.declared.sessions.Found.the-variants.{Got}
-use Rattle.tunnel.proofs.Framed.{gate-onward}
-use Rattle.tunnel.proofs.SoundCalls.{its-control}
+use Rattle.tunnel.proofs.Laws.{gate-law, response-law}
 use Rattle.tunnel.specs.Arguments.{initiationOutcome, openingOutcome}
 use Rattle.tunnel.specs.Sound.{Sound}
-use Rattle.tunnel.specs.Tunnel.{Called, CalledBatch, gate, refused, settled, timed, timeless, kept, timedTurn, timedBatch, callStart, callRestart, callSend, callReceive, callLook, callInitiation, callResponse, callCookie, callTimeout, callEvent, callDeadline, callMissing}
+use Rattle.tunnel.specs.Tunnel.{Called, gate, refused, settled, timed, timeless, kept, timedTurn, timedBatch, callStart, callRestart, callSend, callReceive, callLook, callInitiation, callResponse, callCookie, callTimeout, callEvent, callDeadline, callMissing}
 use Rattle.tunnel.specs.declared.tunnel.Answered.{Answered}
-use Rattle.waking.specs.Waking.{handleTimeout}
+use Rattle.tunnel.specs.HandleTimeout.{handleTimeout}
 
 -- what is known after a call
 abbrev pub Next : (n : ℕ) (h : ℕ → List ℕ) (g k : List Grant) → World → Call → Reply → Type 0
@@ -123,7 +121,7 @@ module _ (n : ℕ) (h : ℕ → List ℕ) (g k : List Grant) (w : World) (y : Kn
   unfolding inserts answeredGrant caseAnswer caseFound
   of-send now out (none i) = known-same n _ h g _ k [] (out .control) (w .store) (i .plain .inserted) (i .plain .granted w) refl (i .known n h g k y)
   of-send now out (some x peer first len v e) =
-      known-as n _ h _ _ k _ (out .control) (w .store) (rw e (add-zero n)) (rw (e, v .current)) (append-nothing k) (v .known n h g k y)
+      known-as n _ h _ _ k _ (out .control) (w .store) (rw e (add-zero n)) (rw (e, v .current)) (append-nil k) (v .known n h g k y)
 
   next-send : (count now : ℕ) → Next n h g k w (send count now) (step w (send count now))
   unfolding step callSend timed settled committing caseBatch wokenGrant caseWaking
@@ -162,7 +160,7 @@ module _ (n : ℕ) (h : ℕ → List ℕ) (g k : List Grant) (w : World) (y : Kn
         → Known n h g k (reply .world .tunnel .control) (reply .world .store) → Next n h g k w batch reply
     unfolding committing caseBatch wokenGrant caseWaking numberOf inserts answeredGrant caseAnswer
     next-turned reply number e d v =
-        known-as n _ _ g _ k _ _ _ (rw e (add-zero n)) (rw e (append-nothing g)) (append-nothing k)
+        known-as n _ _ g _ k _ _ _ (rw e (add-zero n)) (rw e (append-nil g)) (append-nil k)
         (pointwise _ _ _ (λ y. of-choice (λ (l : List ℕ). l ≡ h y) _ _ _ (rw e (sym (no-eq number 0 (h y) _ _ d refl))) refl) v)
 
     -- judged
@@ -172,10 +170,10 @@ module _ (n : ℕ) (h : ℕ → List ℕ) (g k : List Grant) (w : World) (y : Kn
         → Next n h g k w batch reply
     unfolding committing caseBatch wokenGrant caseWaking numberOf inserts answeredGrant caseAnswer
     next-taken reply e v =
-        known-as n _ _ g _ k _ _ _ (rw e (add-zero n)) (rw e (append-nothing g)) (append-nothing k)
+        known-as n _ _ g _ k _ _ _ (rw e (add-zero n)) (rw e (append-nil g)) (append-nil k)
         (v _ (sym (yes-eq id id _ _ _ refl (rw e (yes-eq 0 0 _ _ _ refl refl)))) (λ z d. sym (no-eq id z _ _ _ (λ q. d (sym q)) refl)))
 
-    of-batch : (b : Batched) → Judged (w .tunnel .control) (w .store) id counters b
+    of-batch : (b : Batched Out) → Judged (w .tunnel .control) (w .store) id counters b
         → Next n h g k w batch
         (record {
           world = record { tunnel = settled (w .tunnel) now (b .out) .tunnel; store = b .store };
@@ -187,15 +185,15 @@ module _ (n : ℕ) (h : ℕ → List ℕ) (g k : List Grant) (w : World) (y : Kn
     of-batch b (taken e v) = next-taken _ e (λ i mine others. v n h i g k y mine others)
 
     -- what a batch hands back, by the number of its checks
-    framed : (number : ℕ) (b : Batched) → CalledBatch
+    framed : (number : ℕ) (b : Batched Out) → Batched Answered
     framed number b =
         record {
-          answered = choose (eqb number 0) (settled (w .tunnel) now (b .out)) (refused (w .tunnel) number);
+          out = choose (eqb number 0) (settled (w .tunnel) now (b .out)) (refused (w .tunnel) number);
           store = choose (eqb number 0) (b .store) (w .store);
           verdicts = choose (eqb number 0) (b .verdicts) verdicts;
         }
 
-    of-framed : (f : Bool) (number : ℕ) (b : Batched) → eqb number 0 ≡ f → Judged (w .tunnel .control) (w .store) id counters b
+    of-framed : (f : Bool) (number : ℕ) (b : Batched Out) → eqb number 0 ≡ f → Judged (w .tunnel .control) (w .store) id counters b
         → Next n h g k w batch (judged (framed number b))
     unfolding framed choose refused
     of-framed true number b e j = rw e (of-batch b j)
@@ -300,9 +298,9 @@ module _ (n : ℕ) (h : ℕ → List ℕ) (g k : List Grant) (w : World) (y : Kn
     unfolding inserts answeredGrant caseAnswer
     of-inserts t few (nothing i) = known-same n _ h g _ k [] _ _ (i .plain .inserted) (i .plain .granted w) refl (i .known n h g k y)
     of-inserts t few (responds local peer e v) =
-        known-as (n + 1) _ h g _ k _ _ _ (rw e) (rw e (append-nothing g)) (append-nothing k) (v n h g k (rw e at few) y)
+        known-as (n + 1) _ h g _ k _ _ _ (rw e) (rw e (append-nil g)) (append-nil k) (v n h g k (rw e at few) y)
     of-inserts t few (completes peer counter e v) =
-        known-as (n + 1) _ h (g ++ granting (w .tunnel .control .sessions .inserted) peer counter 1 ∷ []) _ k _ _ _ (rw e) (rw e) (append-nothing k)
+        known-as (n + 1) _ h (g ++ granting (w .tunnel .control .sessions .inserted) peer counter 1 ∷ []) _ k _ _ _ (rw e) (rw e) (append-nil k)
         (v n h g k (rw e at few) y)
 
     of-inserted : (f : Bool) (number : ℕ) (t : Turn) → eqb number 0 ≡ f → (number ≡ 0 → Inserts (w .tunnel .control) (w .store) t)
@@ -324,7 +322,7 @@ module _ (n : ℕ) (h : ℕ → List ℕ) (g k : List Grant) (w : World) (y : Kn
     next-response s receiver peer outcome few =
         of-inserted _ (gate (w .tunnel) _ now) _ refl
         (λ z. inserts-response (w .tunnel .control) (w .store) receiver peer (openingOutcome outcome) now
-        (sound-later _ now (gate-onward (w .tunnel) _ now z) _ (its-control (w .tunnel) s)) (y .held .size))
+        (λ handshake. response-law (w .tunnel) s handshake (w .store) receiver peer now (gate-law (w .tunnel) _ now .onward z) (y .held .size)))
         few
 
   -- every call

@@ -8,30 +8,32 @@ use native.Mathlib.Omega.{arith}
 use lib.Dec.{ltb}
 use borrow.Author.Tests.{ltb-true, ltb-false, lt-ltb, le-ltb}
 use Rattle.base.specs.Choice.{choose}
-use Rattle.control.specs.Control.{Turn, expiredControl, pollEvent, missingReport}
-use Rattle.control.specs.Deadlines.{nextDeadline, notBefore, pollTimeout}
-use Rattle.control.specs.Messages.{startHandshake, restartHandshake, handleHandshakeInitiation, handleHandshakeResponse, handleCookieReply}
-use Rattle.control.specs.Transport as transport
-use Rattle.control.specs.declared.answer.Answer.the-variants.{Deadline}
-use Rattle.control.specs.declared.answer.Answer.{Answer}
-use Rattle.control.specs.declared.control.Control.{Control}
-use Rattle.control.specs.declared.control.Out.{Out}
+use Rattle.tunnel.specs.Control.{Turn, expiredControl, pollEvent, missingReport}
+use Rattle.tunnel.specs.PollTimeout.{nextDeadline, notBefore, pollTimeout}
+use Rattle.tunnel.specs.InitiateHandshake.{startHandshake, restartHandshake}
+use Rattle.tunnel.specs.HandleHandshake.{handleHandshakeInitiation, handleHandshakeResponse, handleCookieReply}
+use Rattle.tunnel.specs.Encapsulate as encapsulate
+use Rattle.tunnel.specs.Decapsulate as decapsulate
+use Rattle.tunnel.specs.declared.answer.Answer.the-variants.{Deadline}
+use Rattle.tunnel.specs.declared.answer.Answer.{Answer}
+use Rattle.tunnel.specs.declared.control.Control.{Control}
+use Rattle.tunnel.specs.declared.control.Out.{Out}
 use Rattle.demands.specs.Calls.Call.{start, restart, send, receive, look, initiation, response, cookie, timeout, event, deadline, missing}
 use Rattle.demands.specs.Calls.{Call, World, Reply, plain, stored, judged, step}
 use Rattle.demands.specs.Wakings.Alike.{equal, come}
 use Rattle.demands.specs.Wakings.{timeOf, NotEarlier, Alike, Same}
-use Rattle.parts.specs.RingBuffer.{ringIsEmpty}
-use Rattle.session.specs.Session.{caseTime}
-use Rattle.session.specs.declared.session.Time.the-variants.{Never, At}
-use Rattle.session.specs.declared.session.Time.{Time}
-use Rattle.tunnel.proofs.Deadline.{deadline-law}
-use Rattle.tunnel.proofs.Facts.{undamaged-facts}
+use Rattle.tunnel.specs.RingBuffer.{ringIsEmpty}
+use Rattle.sessions.specs.Cases.{caseTime}
+use Rattle.sessions.specs.Batch.{Batched}
+use Rattle.sessions.specs.declared.session.Time.the-variants.{Never, At}
+use Rattle.sessions.specs.declared.session.Time.{Time}
+use Rattle.tunnel.proofs.Laws.{deadline-law, undamaged-law}
 use Rattle.tunnel.specs.Arguments.{openingOutcome, initiationOutcome, lacking, badOutcome, badJitter, badBatch}
-use Rattle.tunnel.specs.Check.{undamaged}
+use Rattle.tunnel.specs.Damage.{undamaged}
 use Rattle.tunnel.specs.Tunnel.{gate, timelessGate, refused, settled, timed, timeless, kept, timedTurn, timedBatch, callStart, callRestart, callSend, callReceive, callLook, callInitiation, callResponse, callCookie, callTimeout, callEvent, callDeadline, callMissing}
 use Rattle.tunnel.specs.declared.tunnel.Answered.{Answered}
 use Rattle.tunnel.specs.declared.tunnel.Tunnel.{Tunnel}
-use Rattle.waking.specs.Waking.{handleTimeout}
+use Rattle.tunnel.specs.HandleTimeout.{handleTimeout}
 
 -- the plain and the woken tunnel have the same control; the woken one's greatest time is at most this later than the plain one's
 pub record TwinTunnels (latest : ℕ) (p w : Tunnel) : Type 0 where
@@ -168,13 +170,13 @@ module _ {latest : ℕ} {p w : World} (h : Twins latest p w) (u : undamaged (p .
         twins = record { tunnels = k .tunnels; store = s };
       }
 
-  batch-pair : (bad is : Bool) (now : ℕ) (verdicts : List ℕ) (batch shall : transport.Batched) → latest ≤ now → bad ≡ is → batch ≡ shall
+  batch-pair : (bad is : Bool) (now : ℕ) (verdicts : List ℕ) (batch shall : Batched Out) → latest ≤ now → bad ≡ is → batch ≡ shall
       → Pair latest (judged (timedBatch (p .tunnel) bad now (p .store) verdicts batch)) (judged (timedBatch (w .tunnel) is now (w .store) verdicts shall))
   unfolding timedBatch
   batch-pair bad is now verdicts batch shall l b e =
-      let k = timed-alike (h .tunnels) u v bad now l is (batch .out) (shall .out) b (ap (λ (x : transport.Batched). x .out) e) in
-      let s = kept-alike (h .tunnels) u v bad now l is (p .store) (batch .store) (w .store) (shall .store) b (h .store) (ap (λ (x : transport.Batched). x .store) e) in
-      let z = kept-alike (h .tunnels) u v bad now l is verdicts (batch .verdicts) verdicts (shall .verdicts) b refl (ap (λ (x : transport.Batched). x .verdicts) e) in
+      let k = timed-alike (h .tunnels) u v bad now l is (batch .out) (shall .out) b (ap (λ (x : Batched Out). x .out) e) in
+      let s = kept-alike (h .tunnels) u v bad now l is (p .store) (batch .store) (w .store) (shall .store) b (h .store) (ap (λ (x : Batched Out). x .store) e) in
+      let z = kept-alike (h .tunnels) u v bad now l is verdicts (batch .verdicts) verdicts (shall .verdicts) b refl (ap (λ (x : Batched Out). x .verdicts) e) in
       record {
         same = record { answers = equal-alike _ _ _ (k .answer); verdicts = z; stores = s };
         twins = record { tunnels = k .tunnels; store = s };
@@ -193,8 +195,8 @@ module _ {latest : ℕ} {p w : World} (h : Twins latest p w) (u : undamaged (p .
               answers =
                   rw (deadline-still (w .tunnel) v, deadline-law (p .tunnel) .answer u, deadline-law (w .tunnel) .answer v, h .tunnels .control)
                   (deadlines-alike (w .tunnel .control) _ _ _
-                  (let a = undamaged-facts (p .tunnel) u .updated in let b = h .tunnels .older in omega arith)
-                  (undamaged-facts (w .tunnel) v .updated));
+                  (let a = undamaged-law .facts (p .tunnel) u .updated in let b = h .tunnels .older in omega arith)
+                  (undamaged-law .facts (w .tunnel) v .updated));
               verdicts = refl;
               stores = h .store;
             };
@@ -206,13 +208,13 @@ module _ {latest : ℕ} {p w : World} (h : Twins latest p w) (u : undamaged (p .
   unfolding step timeOf callStart callRestart callSend callReceive callLook callInitiation callResponse callCookie callTimeout callEvent callMissing
   calls-alike (start now) l = timed-pair _ _ now _ _ (l now refl) refl (ap (λ (c : Control). startHandshake c now) (h .tunnels .control))
   calls-alike (restart now) l = timed-pair _ _ now _ _ (l now refl) refl (ap (λ (c : Control). restartHandshake c now) (h .tunnels .control))
-  calls-alike (send count now) l = timed-pair _ _ now _ _ (l now refl) refl (ap (λ (c : Control). transport.send c count now) (h .tunnels .control))
+  calls-alike (send count now) l = timed-pair _ _ now _ _ (l now refl) refl (ap (λ (c : Control). encapsulate.send c count now) (h .tunnels .control))
   calls-alike (receive index id now counters kinds verdicts) l =
       batch-pair _ _ now verdicts _ _ (l now refl) (ap (λ (s : List ℕ). badBatch s counters kinds verdicts) (h .store))
-      (ap₂ (λ (c : Control) (s : List ℕ). transport.commitDecapsulate c s index id now counters kinds verdicts) (h .tunnels .control) (h .store))
+      (ap₂ (λ (c : Control) (s : List ℕ). decapsulate.commitDecapsulate c s index id now counters kinds verdicts) (h .tunnels .control) (h .store))
   calls-alike (look index counter now) l =
       timed-pair _ _ now _ _ (l now refl) (ap lacking (h .store))
-      (ap₂ (λ (c : Control) (s : List ℕ). transport.beginDecapsulate c s index counter now) (h .tunnels .control) (h .store))
+      (ap₂ (λ (c : Control) (s : List ℕ). decapsulate.beginDecapsulate c s index counter now) (h .tunnels .control) (h .store))
   calls-alike (initiation peer outcome now) l =
       turn-pair _ _ now _ _ (l now refl) (ap (badOutcome (initiationOutcome outcome)) (h .store))
       (ap₂ (λ (c : Control) (s : List ℕ). handleHandshakeInitiation c s peer (initiationOutcome outcome) now) (h .tunnels .control) (h .store))

@@ -8,10 +8,10 @@ use native.Mathlib.Omega.{arith}
 use lib.ListN.{length, getD, take}
 use borrow.Author.Tests.{ne-eqb, le-leb, lt-leb, lt-ltb, le-ltb}
 use Rattle.base.specs.Choice.{choose}
-use Rattle.control.proofs.Steps.{of-choice}
+use Rattle.base.proofs.Choice.{of-choice}
 use Rattle.demands.specs.Receiving.{Judges}
-use Rattle.sessions.proofs.Judged.{verdict-law}
-use Rattle.sessions.specs.History.{verdictOn, recordedAll, verdictsOn, VerdictLaw}
+use Rattle.demands.proofs.Judged.{verdict-law}
+use Rattle.demands.specs.History.{verdictOn, recordedAll, verdictsOn, VerdictLaw}
 use Rattle.window.specs.History.{member, expected, judged}
 use Rattle.window.specs.Window.{limit, isInvalid}
 

@@ -6,12 +6,14 @@ use mathlib.Core.List.{List, [], _∷_, _++_}
 use Prim.Native.Nat.{ℕ}
 use native.Mathlib.Omega.{arith}
 use lib.ListN.{length}
-use Rattle.control.proofs.Steps.{of-choice, of-found}
-use Rattle.control.specs.Control.{withSessions, queueing}
-use Rattle.control.specs.Messages.{initiate, initiating}
-use Rattle.control.specs.Transport.{caseDatagram, encryptKeepalive}
-use Rattle.control.specs.declared.control.Control.{Control}
-use Rattle.control.specs.declared.transport.Encrypted.{Encrypted}
+use Rattle.base.proofs.Choice.{of-choice}
+use Rattle.sessions.specs.Cases.{of-found, caseTime}
+use Rattle.tunnel.specs.Control.{withSessions, queueing}
+use Rattle.tunnel.specs.InitiateHandshake.{initiate, initiating}
+use Rattle.tunnel.specs.Cases.{caseDatagram, caseEvent}
+use Rattle.tunnel.specs.Encapsulate.{encryptKeepalive}
+use Rattle.tunnel.specs.declared.control.Control.{Control}
+use Rattle.tunnel.specs.declared.encapsulate.Encrypted.{Encrypted}
 use Rattle.demands.proofs.Granting.Encrypts.{skips, sends}
 use Rattle.demands.proofs.Granting.{Encrypts, encrypts}
 use Rattle.demands.proofs.Held.{Held, held-carried}
@@ -19,20 +21,18 @@ use Rattle.demands.proofs.Known.{Known}
 use Rattle.demands.proofs.Moves.{carried-next, Thinned, thinned-expire, thinned-clear}
 use Rattle.demands.proofs.Queued.{EventGranted}
 use Rattle.demands.specs.Sending.{Grant, granting, keepaliveBy}
-use Rattle.parts.specs.Event.{caseEvent}
-use Rattle.parts.specs.RingBuffer.{pushBack}
-use Rattle.parts.specs.declared.event.Event.the-variants.{SendHandshakeInitiation, SendKeepalive, ConnectionExpired}
-use Rattle.parts.specs.declared.event.Event.{Event}
-use Rattle.parts.specs.declared.ring_buffer.RingBuffer.{RingBuffer}
-use Rattle.session.specs.Session.{caseTime}
+use Rattle.tunnel.specs.RingBuffer.{pushBack}
+use Rattle.tunnel.specs.declared.event.Event.the-variants.{SendHandshakeInitiation, SendKeepalive, ConnectionExpired}
+use Rattle.tunnel.specs.declared.event.Event.{Event}
+use Rattle.tunnel.specs.declared.ring_buffer.RingBuffer.{RingBuffer}
 use Rattle.sessions.specs.Sessions.{currentOf, expire, clear}
-use Rattle.session.specs.declared.session.Session.{Session}
-use Rattle.session.specs.declared.session.Time.the-variants.{Never, At}
-use Rattle.session.specs.declared.session.Time.{Time}
+use Rattle.sessions.specs.declared.session.Session.{Session}
+use Rattle.sessions.specs.declared.session.Time.the-variants.{Never, At}
+use Rattle.sessions.specs.declared.session.Time.{Time}
 use Rattle.sessions.specs.declared.sessions.Found.the-variants.{Got}
 use Rattle.sessions.specs.declared.sessions.Found.{Found}
 use Rattle.sessions.specs.declared.sessions.Sessions.{Sessions}
-use Rattle.waking.specs.Waking.{Inner, inner, clearAll, expireControl, scheduling, queueKeepalive, sendKeepalive, keepaliveIfDue, wakeIdle, wakeInProgress, wakeLater, wakeRest, wakeCurrent, wakeSessions, sendScheduled, wake}
+use Rattle.tunnel.specs.HandleTimeout.{Inner, inner, clearAll, expireControl, scheduling, queueKeepalive, sendKeepalive, keepaliveIfDue, rekeyOrKeepalive, giveUpOrRetry, maintainConnection, expireSessions, sendScheduled, handleDue}
 
 -- an event that is no grant
 pub record Ungranted (event : Event) : Type 0 where
@@ -110,15 +110,15 @@ module _ (c : Control) (store : List ℕ) where
       unfolding scheduling
       scheduled d f = silent (f .held) (f .ring)
 
-      idle : (d : Control) → From (d .sessions) (d .events) left → Waked (wakeIdle d required jitter now) left
-      unfolding wakeIdle
+      idle : (d : Control) → From (d .sessions) (d .events) left → Waked (rekeyOrKeepalive d required jitter now) left
+      unfolding rekeyOrKeepalive
       idle d f =
           of-choice (λ (y : Control). Waked y left) _ _ _ (scheduled d f)
           (of-choice (λ (y : Control). Waked y left) _ _ _ (scheduled d f) (kept-alive d f))
 
       progress : (d : Control) → From (d .sessions) (d .events) left
-          → Waked (wakeInProgress d left required jitter now .control) (wakeInProgress d left required jitter now .store)
-      unfolding wakeInProgress
+          → Waked (giveUpOrRetry d left required jitter now .control) (giveUpOrRetry d left required jitter now .store)
+      unfolding giveUpOrRetry
       progress d f =
           of-choice (λ (y : Inner). Waked (y .control) (y .store)) _ _ _ (ended d left now f)
           (of-choice (λ (y : Inner). Waked (y .control) (y .store)) _ _ _ (scheduled d f)
@@ -126,35 +126,27 @@ module _ (c : Control) (store : List ℕ) where
 
       of-retry : (retry : Time) (d : Control) → From (d .sessions) (d .events) left
           → Waked
-          (caseTime retry (inner (wakeIdle d required jitter now) left) (λ at. wakeInProgress d left required jitter now) .control)
-          (caseTime retry (inner (wakeIdle d required jitter now) left) (λ at. wakeInProgress d left required jitter now) .store)
+          (caseTime retry (inner (rekeyOrKeepalive d required jitter now) left) (λ at. giveUpOrRetry d left required jitter now) .control)
+          (caseTime retry (inner (rekeyOrKeepalive d required jitter now) left) (λ at. giveUpOrRetry d left required jitter now) .store)
       unfolding caseTime
       of-retry Never d f = idle d f
       of-retry (At at) d f = progress d f
 
-      later : (d : Control) → From (d .sessions) (d .events) left
-          → Waked (wakeLater d left required jitter now .control) (wakeLater d left required jitter now .store)
-      unfolding wakeLater
-      later d f = of-choice (λ (y : Inner). Waked (y .control) (y .store)) _ _ _ (ended d left now f) (of-retry _ d f)
-
-      rest : (d : Control) → From (d .sessions) (d .events) left
-          → Waked (wakeRest d left required jitter now .control) (wakeRest d left required jitter now .store)
-      unfolding wakeRest
-      rest d f = later _ f
-
-    woken-current : (d : Control) (expired : Found) (jitter : ℕ) → From (d .sessions) (d .events) left
-        → Waked (wakeCurrent d left expired jitter now .control) (wakeCurrent d left expired jitter now .store)
-    unfolding wakeCurrent
-    woken-current d expired jitter f =
-        of-found (λ (y : Inner). Waked (y .control) (y .store)) _ _ _ (rest jitter false d f)
-        (λ session. of-choice (λ (y : Inner). Waked (y .control) (y .store)) _ _ _ (ended d left now f) (rest jitter _ d f))
+      maintained : (d : Control) → From (d .sessions) (d .events) left
+          → Waked (maintainConnection d left required jitter now .control) (maintainConnection d left required jitter now .store)
+      unfolding maintainConnection
+      maintained d f = of-choice (λ (y : Inner). Waked (y .control) (y .store)) _ _ _ (ended _ left now f) (of-retry _ _ f)
 
   module _ (jitter now : ℕ) (f : From (c .sessions) (c .events) store) where
-    woken-sessions : Waked (wakeSessions c store jitter now .control) (wakeSessions c store jitter now .store)
-    unfolding wakeSessions
-    woken-sessions =
-        woken-current _ now (withSessions c (expire (c .sessions) store now .expired .sessions)) _ jitter
-        (from-thinned (c .sessions) _ (c .events) store _ f (thinned-expire (c .sessions) store now (f .eight) (f .size)))
+    expired : Waked (expireSessions c store jitter now .control) (expireSessions c store jitter now .store)
+    unfolding expireSessions
+    expired =
+        let d : Control = withSessions c (expire (c .sessions) store now .expired .sessions) in
+        let left : List ℕ = expire (c .sessions) store now .store in
+        let g : From (d .sessions) (d .events) left =
+        from-thinned (c .sessions) _ (c .events) store _ f (thinned-expire (c .sessions) store now (f .eight) (f .size)) in
+        of-found (λ (y : Inner). Waked (y .control) (y .store)) _ _ _ (maintained left now jitter false d g)
+        (λ session. of-choice (λ (y : Inner). Waked (y .control) (y .store)) _ _ _ (ended d left now g) (maintained left now jitter _ d g))
 
     -- the scheduled handshake sent
     sent-scheduled : Waked (sendScheduled c now) store
@@ -163,12 +155,12 @@ module _ (c : Control) (store : List ℕ) where
         queues _ (initiation-none _)
         (λ n h g w. held-carried n h g (c .sessions) _ store store w (carried-next (c .sessions) store)) refl
 
-    of-scheduled : (at : Time) → Waked (caseTime at (wakeSessions c store jitter now) (λ at. inner c store) .control)
-        (caseTime at (wakeSessions c store jitter now) (λ at. inner c store) .store)
+    of-scheduled : (at : Time) → Waked (caseTime at (expireSessions c store jitter now) (λ at. inner c store) .control)
+        (caseTime at (expireSessions c store jitter now) (λ at. inner c store) .store)
     unfolding caseTime
-    of-scheduled Never = woken-sessions
+    of-scheduled Never = expired
     of-scheduled (At at) = silent (f .held) (f .ring)
 
-    pub woken : Waked (wake c store jitter now .control) (wake c store jitter now .store)
-    unfolding wake
+    pub woken : Waked (handleDue c store jitter now .control) (handleDue c store jitter now .store)
+    unfolding handleDue
     woken = of-choice (λ (y : Inner). Waked (y .control) (y .store)) _ _ _ sent-scheduled (of-scheduled _)

@@ -9,41 +9,39 @@ use native.Mathlib.Omega.{arith}
 use lib.Dec.{ltb, leb, eqb}
 use borrow.Author.Tests.{le-ltb, lt-leb, eqb-true}
 use Rattle.base.specs.Choice.{choose}
-use Rattle.control.proofs.Steps.{of-found, of-reserved}
-use Rattle.control.specs.Control.{Turn, newControl, refuse, done, expiredControl}
-use Rattle.control.specs.Deadlines.{nextDeadline, notBefore, pollTimeout}
-use Rattle.control.specs.Transport as transport
-use Rattle.control.specs.Transport.{grant, finishEncapsulate}
-use Rattle.control.specs.declared.answer.Answer.the-variants.{No, Done, Deadline}
-use Rattle.control.specs.declared.answer.Answer.{Answer}
-use Rattle.control.specs.declared.control.Control.{Control}
-use Rattle.control.specs.declared.control.Out.{Out}
+use Rattle.sessions.specs.Cases.{of-found, of-reserved, caseTime}
+use Rattle.tunnel.specs.Control.{Turn, newControl, refuse, done, expiredControl}
+use Rattle.tunnel.specs.PollTimeout.{nextDeadline, notBefore, pollTimeout}
+use Rattle.tunnel.specs.Encapsulate as encapsulate
+use Rattle.tunnel.specs.Encapsulate.{grant, finishEncapsulate}
+use Rattle.tunnel.specs.declared.answer.Answer.the-variants.{No, Done, Deadline}
+use Rattle.tunnel.specs.declared.answer.Answer.{Answer}
+use Rattle.tunnel.specs.declared.control.Control.{Control}
+use Rattle.tunnel.specs.declared.control.Out.{Out}
 use Rattle.demands.proofs.Grown.{sound-created, sound-step}
 use Rattle.demands.proofs.Ran.{ranOf, ran-step}
-use Rattle.demands.proofs.Setting.{setting-stays}
+use Rattle.demands.proofs.Settings.{setting-stays}
 use Rattle.demands.proofs.Twins.{Twins, Pair, calls-alike}
 use Rattle.demands.specs.Calls.Call.{timeout}
 use Rattle.demands.specs.Calls.{Call, World, step, after, Creation, created, Good}
 use Rattle.demands.specs.Wakings.{Step, shared, extra, plainCalls, wokenCalls, Ran, ran, ranAfter, ranNew, Current, Expired, BeforeDeadline, NotEarlier, ComesEarly, CurrentOrUnset, InOrder, Admissible, Same, CreatedAlike, ExtraWakingsLaw}
-use Rattle.parts.specs.RingBuffer.{ringIsEmpty}
-use Rattle.parts.specs.Timers.{newTimers}
-use Rattle.parts.specs.declared.timers.Interval.the-variants.{Off}
-use Rattle.session.specs.Session.{caseTime, dueBy, timeLimit}
-use Rattle.session.specs.Store.{zeros}
-use Rattle.session.specs.declared.session.Session.{Session}
-use Rattle.session.specs.declared.session.Time.the-variants.{Never, At}
-use Rattle.session.specs.declared.session.Time.{Time}
-use Rattle.tunnel.proofs.Deadline.{deadline-law}
-use Rattle.tunnel.proofs.Facts.{undamaged-facts}
-use Rattle.tunnel.proofs.Framed.{gate-onward}
+use Rattle.tunnel.specs.RingBuffer.{ringIsEmpty}
+use Rattle.tunnel.specs.Timers.{newTimers}
+use Rattle.tunnel.specs.declared.timers.Interval.the-variants.{Off}
+use Rattle.sessions.specs.Session.{dueBy, timeLimit}
+use Rattle.base.specs.Lists.{zeros}
+use Rattle.sessions.specs.declared.session.Session.{Session}
+use Rattle.sessions.specs.declared.session.Time.the-variants.{Never, At}
+use Rattle.sessions.specs.declared.session.Time.{Time}
+use Rattle.tunnel.proofs.Laws.{deadline-law, quiet-law}
+use Rattle.tunnel.proofs.Laws.{undamaged-law, gate-law}
 use Rattle.tunnel.specs.Arguments.{intervalOf, badJitter, creationNumber}
-use Rattle.tunnel.specs.Check.{undamaged}
+use Rattle.tunnel.specs.Damage.{undamaged}
 use Rattle.tunnel.specs.Sound.{Sound}
 use Rattle.tunnel.specs.Tunnel.{made, gate, refused, settled, timed, kept, timedTurn, Called, callNew, callSend, callTimeout}
 use Rattle.tunnel.specs.declared.tunnel.Tunnel.{Tunnel}
-use Rattle.waking.proofs.Quiet.{quiet-law}
-use Rattle.waking.specs.Quiet.{Early}
-use Rattle.waking.specs.Waking.{Inner, handleTimeout}
+use Rattle.tunnel.specs.Quiet.{Early}
+use Rattle.tunnel.specs.HandleTimeout.{Inner, handleTimeout}
 
 -- a tunnel that would give 11 is expired: no other way of sending gives it
 abbrev NotEleven : Out → Type 0
@@ -62,8 +60,8 @@ unfolding choose
 of-eleven true c rest h e = refl
 of-eleven false c rest h e = absurd (h e)
 
-eleven-expired : (c : Control) (count now : ℕ) → transport.send c count now .answer ≡ No 11 → expiredControl c ≡ true
-unfolding transport.send refuse
+eleven-expired : (c : Control) (count now : ℕ) → encapsulate.send c count now .answer ≡ No 11 → expiredControl c ≡ true
+unfolding encapsulate.send refuse
 eleven-expired c count now e =
     of-eleven (expiredControl c) c _ (of-found NotEleven _ _ _ (λ z. twelve _ refl z) (λ s. not-granted c s count now)) e
 
@@ -81,7 +79,7 @@ expired-control : (w : World) → undamaged (w .tunnel) ≡ true → Expired w �
 unfolding step callSend
 expired-control w u e =
     let g = w .tunnel .greatest in
-    let o = gate-open (w .tunnel) false g u refl (undamaged-facts (w .tunnel) u .latest) (omega arith) in
+    let o = gate-open (w .tunnel) false g u refl (undamaged-law .facts (w .tunnel) u .latest) (omega arith) in
     eleven-expired (w .tunnel .control) 1 g (sym (timed-open (w .tunnel) false g _ o) ∙ e)
 
 -- a time before the reported deadline and not before the last update is before the next deadline
@@ -104,7 +102,7 @@ unfolding step pollTimeout
 before-deadline w now u g b =
     let a : Deadline (pollTimeout (w .tunnel .control) (w .tunnel .«last_update»)) ≡ Deadline (At (b .0)) =
     sym (deadline-law (w .tunnel) .answer u) ∙ b .1 in
-    let l = undamaged-facts (w .tunnel) u .updated in
+    let l = undamaged-law .facts (w .tunnel) u .updated in
     before-due (expiredControl (w .tunnel .control)) (ringIsEmpty (w .tunnel .control .events)) _ (w .tunnel .«last_update») (b .0) now (cc) (b .2) (omega arith)
 
 -- a waking that finds the tunnel expired, or comes early, leaves the control and the store
@@ -137,7 +135,7 @@ module _ {latest : ℕ} (p w : World) (h : Twins latest p w) (bad : Bool) (now :
       go : (t : Bool) → eqb (gate (w .tunnel) bad now) 0 ≡ t → Twins latest p Left ⊎ Twins now p Left
       go false e = rw e (inl h)
       go true e =
-          let g = gate-onward (w .tunnel) bad now (eqb-true _ 0 e) in
+          let g = gate-law (w .tunnel) bad now .onward (eqb-true _ 0 e) in
           let s = k g in
           let o = h .tunnels .older in
           rw e (inr (record {

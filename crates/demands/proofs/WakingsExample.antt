@@ -8,38 +8,40 @@ use Prim.Native.Nat.{ℕ}
 use native.Mathlib.Omega.{arith}
 use Rattle.base.specs.Choice.{choose}
 use Rattle.base.specs.First.{noneOf}
-use Rattle.control.specs.Answer.{numberOf}
-use Rattle.control.specs.Check.{storedHolds, controlHolds}
-use Rattle.control.specs.Control.{newControl, refuse, done, expiredControl, queueing, pollEvent}
-use Rattle.control.specs.Deadlines.{scheduledHandshake, earliestExpiry, cookieDeadline, rejectDeadline, attemptDeadline, handshakeRekeyTimeout, foundOnSend, foundAfterMessages, foundOnReceive, responseDeadline, passiveDeadline, persistentDeadline, currentPersistentDeadline, commonDeadline, rekeyDeadline, keepaliveDeadline, unscheduledDeadline, nextDeadline, notBefore, pollTimeout}
-use Rattle.control.specs.Messages.{confirming, establish, complete, handleHandshakeResponse, initiating, initiate, restartHandshake, startHandshake}
-use Rattle.control.specs.Transport as transport
-use Rattle.control.specs.Transport.{caseDatagram, beginEncapsulate, finishEncapsulate, grant, encryptKeepalive, confirmFirstSession}
-use Rattle.control.specs.declared.answer.Answer.the-variants.{No, Initiation, Polled, Deadline}
-use Rattle.control.specs.declared.answer.Answer.{Answer}
+use Rattle.tunnel.specs.Answer.{numberOf}
+use Rattle.tunnel.specs.Damage.{storedHolds, controlHolds, timeHolds, stateHolds, inRange, intervalHolds, bothAtMost, eventHolds, queueHolds, eventsHold, handshakeHolds, packetTimersHold, dataTimersHold, fieldsHold, timersHold, undamaged}
+use Rattle.tunnel.specs.Control.{newControl, refuse, done, expiredControl, queueing, pollEvent}
+use Rattle.tunnel.specs.PollTimeout.{scheduledHandshake, earliestExpiry, cookieDeadline, rejectDeadline, attemptDeadline, handshakeRekeyTimeout, foundOnSend, foundAfterMessages, foundOnReceive, responseDeadline, passiveDeadline, persistentDeadline, currentPersistentDeadline, commonDeadline, rekeyDeadline, keepaliveDeadline, unscheduledDeadline, nextDeadline, notBefore, pollTimeout}
+use Rattle.tunnel.specs.HandleHandshake.{confirming, establish, complete, handleHandshakeResponse}
+use Rattle.tunnel.specs.InitiateHandshake.{initiating, initiate, restartHandshake, startHandshake}
+use Rattle.tunnel.specs.Encapsulate as encapsulate
+use Rattle.tunnel.specs.Cases.{caseDatagram, caseEvent, caseState, caseCompleted, caseInterval}
+use Rattle.tunnel.specs.Encapsulate.{beginEncapsulate, finishEncapsulate, grant, encryptKeepalive}
+use Rattle.tunnel.specs.Decapsulate.{confirmFirstSession}
+use Rattle.tunnel.specs.declared.answer.Answer.the-variants.{No, Initiation, Polled, Deadline}
+use Rattle.tunnel.specs.declared.answer.Answer.{Answer}
 use Rattle.demands.proofs.Admits.{isEleven, isAbove, testExpired, testEarly, early-is, testHeld, held-is, noneEarlier, testOrder, order-is}
 use Rattle.demands.specs.Calls.Call.{start, response, timeout, event, deadline}
 use Rattle.demands.specs.Calls.{Call, Good, step, after, created}
 use Rattle.demands.specs.Wakings.Alike.{equal, come}
 use Rattle.demands.specs.Wakings.{Step, shared, extra, plainCalls, wokenCalls, took, ran, ranNew, Expired, timeOf, Alike, Agree, CreatedAlike}
 use Rattle.demands.specs.WakingsExample.{creation, established, used, lost, example, plainAfter, wokenAfter, ExtraWakingsExample, late, unheld, disordered, ConditionsNeeded}
-use Rattle.sessions.specs.Check.{slotHolds, slotsHold}
-use Rattle.parts.specs.Check.{timeHolds, stateHolds, inRange, intervalHolds, bothAtMost, eventHolds, queueHolds, eventsHold, handshakeHolds, packetTimersHold, dataTimersHold, fieldsHold, timersHold}
-use Rattle.parts.specs.Event.{caseEvent}
-use Rattle.parts.specs.Handshake.{caseState, caseCompleted, newHandshake, awaits, isInProgress, inFlightInitiation, setExpired, isExpired, cookieExpiration, appendMac1AndMac2, initiateHandshake, expects, receiveHandshakeResponse, expireCookie}
-use Rattle.parts.specs.RingBuffer.{placeOf, emptyPlaces, newRing, ringIsEmpty, storeAt, pushBack, popFront, eventsFrom, queued}
-use Rattle.parts.specs.Timers.{caseInterval, newTimers, rejectAfterTimeOf, rekeyAttemptDeadline, rekeyAfterTimeWithoutResponse, keepaliveAfterTimeWithoutSend, nextPersistentKeepalive, clearTimers, tickLastHandshakeCompleted, tickLastHandshakeStarted, tickLastPacketReceived, tickLastPacketSent, getOr, tickLastDataPacketSent, tickPersistentKeepalive, rekeyTimeoutOf, scheduleHandshake, cancelScheduledHandshake, consumePassiveKeepalive, tickCompleted, tickInitiation}
-use Rattle.parts.specs.declared.event.Event.the-variants.{Empty, SendKeepalive, ConnectionExpired}
-use Rattle.session.specs.Index.{wrappingIncrement}
-use Rattle.session.specs.Session.{caseTime, caseRole, caseReserved, dueBy, least, earlier, newSession, emptySession, rekeyAfterTimeOnSend, rejectAfterTimeOnReceive, expiresAt, expiredAt, shouldUseAt, rekeyAfterMessagesReached, sendingCounterExhausted, preparePacketData, reserveCounters}
-use Rattle.sessions.specs.Sessions.{caseFound, caseSelected, emptySlots, newSessions, inSlotOf, get, put, currentOf, inCurrentSlot, indexAfter, nextIndex, inserting, insert, usable, sendingSession, isIndex, select, setCurrent, clear, emptied, expiredSlot, discard, expireSlot, expireFirst, expire, slotExpiry, firstExpiry}
-use Rattle.session.specs.Store.{putSlot, zeros}
-use Rattle.session.specs.declared.session.Time.the-variants.{At}
-use Rattle.session.specs.declared.session.Time.{Time}
+use Rattle.sessions.specs.Damage.{slotHolds, slotsHold}
+use Rattle.tunnel.specs.Handshake.{newHandshake, awaits, isInProgress, inFlightInitiation, setExpired, isExpired, cookieExpiration, appendMac1AndMac2, initiateHandshake, expects, receiveHandshakeResponse, expireCookie}
+use Rattle.tunnel.specs.RingBuffer.{placeOf, emptyPlaces, newRing, ringIsEmpty, storeAt, pushBack, popFront, eventsFrom, queued}
+use Rattle.tunnel.specs.Timers.{newTimers, rejectAfterTimeOf, rekeyAttemptDeadline, rekeyAfterTimeWithoutResponse, keepaliveAfterTimeWithoutSend, nextPersistentKeepalive, clearTimers, tickLastHandshakeCompleted, tickLastHandshakeStarted, tickLastPacketReceived, tickLastPacketSent, getOr, tickLastDataPacketSent, tickPersistentKeepalive, rekeyTimeoutOf, scheduleHandshake, cancelScheduledHandshake, consumePassiveKeepalive, tickCompleted, tickInitiation}
+use Rattle.tunnel.specs.declared.event.Event.the-variants.{Empty, SendKeepalive, ConnectionExpired}
+use Rattle.sessions.specs.Index.{wrappingIncrement}
+use Rattle.sessions.specs.Cases.{caseTime, caseRole, caseReserved, caseFound, caseSelected}
+use Rattle.sessions.specs.Session.{dueBy, least, earlier, newSession, emptySession, rekeyAfterTimeOnSend, rejectAfterTimeOnReceive, expiresAt, expiredAt, shouldUseAt, rekeyAfterMessagesReached, sendingCounterExhausted, preparePacketData, reserveCounters}
+use Rattle.sessions.specs.Sessions.{emptySlots, newSessions, inSlotOf, get, put, currentOf, inCurrentSlot, indexAfter, nextIndex, inserting, insert, usable, sendingSession, isIndex, select, setCurrent, clear, emptied, expiredSlot, discard, expireSlot, expireFirst, expire, slotExpiry, firstExpiry}
+use Rattle.sessions.specs.Store.{putSlot}
+use Rattle.base.specs.Lists.{zeros}
+use Rattle.sessions.specs.declared.session.Time.the-variants.{At}
+use Rattle.sessions.specs.declared.session.Time.{Time}
 use Rattle.tunnel.specs.Arguments.{intervalOf, openingOutcome, lacking, badOutcome, badJitter, creationNumber}
-use Rattle.tunnel.specs.Check.{undamaged}
 use Rattle.tunnel.specs.Tunnel.{made, gate, timelessGate, refused, settled, timed, timeless, kept, timedTurn, callNew, callStart, callSend, callResponse, callTimeout, callEvent, callDeadline}
-use Rattle.waking.specs.Waking.{clearAll, expireControl, scheduling, queueKeepalive, keepaliveDue, passiveTimers, keepaliveTimers, sendKeepalive, keepaliveIfDue, rekeyDue, wakeIdle, wakeInProgress, wakeLater, wakeRest, isLost, isReplaced, wakeCurrent, wakeSessions, sendScheduled, wake, handleTimeout}
+use Rattle.tunnel.specs.HandleTimeout.{clearAll, expireControl, scheduling, queueKeepalive, keepaliveDue, passiveTimers, keepaliveTimers, sendKeepalive, keepaliveIfDue, rekeyDue, rekeyOrKeepalive, giveUpOrRetry, maintainConnection, isLost, isReplaced, expireSessions, sendScheduled, handleDue, handleTimeout}
 
 -- what the two tunnels, with a keepalive of so many seconds, answer to a call after some steps
 abbrev plainAnswer : ℕ → List Step → Call → Answer
@@ -89,7 +91,7 @@ record Computed : Type 0 where
   disorderedWoken : wokenAnswer 0 disorderedFirst (start 5000000000) ≡ No 13
 
 computed : Computed
-unfolding choose wrappingIncrement caseTime caseRole caseReserved dueBy least earlier newSession emptySession rekeyAfterTimeOnSend rejectAfterTimeOnReceive expiresAt expiredAt shouldUseAt rekeyAfterMessagesReached sendingCounterExhausted preparePacketData reserveCounters caseFound caseSelected emptySlots newSessions inSlotOf get put currentOf inCurrentSlot indexAfter nextIndex inserting insert usable sendingSession isIndex select setCurrent clear emptied expiredSlot discard expireSlot expireFirst expire noneOf slotExpiry firstExpiry putSlot zeros numberOf intervalOf openingOutcome lacking badOutcome badJitter creationNumber timeHolds stateHolds inRange intervalHolds bothAtMost eventHolds slotHolds slotsHold queueHolds eventsHold handshakeHolds packetTimersHold dataTimersHold fieldsHold timersHold storedHolds controlHolds undamaged newControl refuse done expiredControl queueing pollEvent scheduledHandshake earliestExpiry cookieDeadline rejectDeadline attemptDeadline handshakeRekeyTimeout foundOnSend foundAfterMessages foundOnReceive responseDeadline passiveDeadline persistentDeadline currentPersistentDeadline commonDeadline rekeyDeadline keepaliveDeadline unscheduledDeadline nextDeadline notBefore pollTimeout caseEvent caseState caseCompleted newHandshake awaits isInProgress inFlightInitiation setExpired isExpired cookieExpiration appendMac1AndMac2 initiateHandshake expects receiveHandshakeResponse confirming establish complete handleHandshakeResponse initiating initiate restartHandshake startHandshake placeOf emptyPlaces newRing ringIsEmpty storeAt pushBack popFront eventsFrom queued caseInterval newTimers rejectAfterTimeOf rekeyAttemptDeadline rekeyAfterTimeWithoutResponse keepaliveAfterTimeWithoutSend nextPersistentKeepalive clearTimers tickLastHandshakeCompleted tickLastHandshakeStarted tickLastPacketReceived tickLastPacketSent getOr tickLastDataPacketSent tickPersistentKeepalive rekeyTimeoutOf scheduleHandshake cancelScheduledHandshake consumePassiveKeepalive tickCompleted tickInitiation caseDatagram beginEncapsulate finishEncapsulate grant encryptKeepalive confirmFirstSession made gate timelessGate refused settled timed timeless kept timedTurn callNew callStart callSend callResponse callTimeout callEvent callDeadline clearAll expireControl scheduling queueKeepalive keepaliveDue passiveTimers keepaliveTimers sendKeepalive keepaliveIfDue rekeyDue wakeIdle wakeInProgress expireCookie wakeLater wakeRest isLost isReplaced wakeCurrent wakeSessions sendScheduled wake handleTimeout transport.send step after plainCalls wokenCalls took ran timeOf established used lost example late unheld disordered isEleven isAbove testExpired testEarly testHeld noneEarlier testOrder
+unfolding choose wrappingIncrement caseTime caseRole caseReserved dueBy least earlier newSession emptySession rekeyAfterTimeOnSend rejectAfterTimeOnReceive expiresAt expiredAt shouldUseAt rekeyAfterMessagesReached sendingCounterExhausted preparePacketData reserveCounters caseFound caseSelected emptySlots newSessions inSlotOf get put currentOf inCurrentSlot indexAfter nextIndex inserting insert usable sendingSession isIndex select setCurrent clear emptied expiredSlot discard expireSlot expireFirst expire noneOf slotExpiry firstExpiry putSlot zeros numberOf intervalOf openingOutcome lacking badOutcome badJitter creationNumber timeHolds stateHolds inRange intervalHolds bothAtMost eventHolds slotHolds slotsHold queueHolds eventsHold handshakeHolds packetTimersHold dataTimersHold fieldsHold timersHold storedHolds controlHolds undamaged newControl refuse done expiredControl queueing pollEvent scheduledHandshake earliestExpiry cookieDeadline rejectDeadline attemptDeadline handshakeRekeyTimeout foundOnSend foundAfterMessages foundOnReceive responseDeadline passiveDeadline persistentDeadline currentPersistentDeadline commonDeadline rekeyDeadline keepaliveDeadline unscheduledDeadline nextDeadline notBefore pollTimeout caseEvent caseState caseCompleted newHandshake awaits isInProgress inFlightInitiation setExpired isExpired cookieExpiration appendMac1AndMac2 initiateHandshake expects receiveHandshakeResponse confirming establish complete handleHandshakeResponse initiating initiate restartHandshake startHandshake placeOf emptyPlaces newRing ringIsEmpty storeAt pushBack popFront eventsFrom queued caseInterval newTimers rejectAfterTimeOf rekeyAttemptDeadline rekeyAfterTimeWithoutResponse keepaliveAfterTimeWithoutSend nextPersistentKeepalive clearTimers tickLastHandshakeCompleted tickLastHandshakeStarted tickLastPacketReceived tickLastPacketSent getOr tickLastDataPacketSent tickPersistentKeepalive rekeyTimeoutOf scheduleHandshake cancelScheduledHandshake consumePassiveKeepalive tickCompleted tickInitiation caseDatagram beginEncapsulate finishEncapsulate grant encryptKeepalive confirmFirstSession made gate timelessGate refused settled timed timeless kept timedTurn callNew callStart callSend callResponse callTimeout callEvent callDeadline clearAll expireControl scheduling queueKeepalive keepaliveDue passiveTimers keepaliveTimers sendKeepalive keepaliveIfDue rekeyDue rekeyOrKeepalive giveUpOrRetry expireCookie maintainConnection isLost isReplaced expireSessions sendScheduled handleDue handleTimeout encapsulate.send step after plainCalls wokenCalls took ran timeOf established used lost example late unheld disordered isEleven isAbove testExpired testEarly testHeld noneEarlier testOrder
 computed =
     record {
       good = refl;

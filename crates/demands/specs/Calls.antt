@@ -2,9 +2,10 @@
 use mathlib.Core.Path.{_≡_}
 use mathlib.Core.List.{List, [], _∷_}
 use Prim.Native.Nat.{ℕ}
-use Rattle.control.specs.declared.answer.Answer.the-variants.{Done}
-use Rattle.control.specs.declared.answer.Answer.{Answer}
-use Rattle.tunnel.specs.Tunnel.{Called, CalledBatch, callNew, callStart, callRestart, callSend, callReceive, callLook, callInitiation, callResponse, callCookie, callTimeout, callEvent, callDeadline, callMissing}
+use Rattle.sessions.specs.Batch.{Batched}
+use Rattle.tunnel.specs.declared.answer.Answer.the-variants.{Done}
+use Rattle.tunnel.specs.declared.answer.Answer.{Answer}
+use Rattle.tunnel.specs.Tunnel.{Called, callNew, callStart, callRestart, callSend, callReceive, callLook, callInitiation, callResponse, callCookie, callTimeout, callEvent, callDeadline, callMissing}
 use Rattle.tunnel.specs.declared.tunnel.Answered.{Answered}
 use Rattle.tunnel.specs.declared.tunnel.Tunnel.{Tunnel}
 
@@ -41,9 +42,9 @@ abbrev pub stored : Called → Reply
 stored c = plain (c .store) (c .answered)
 
 -- what a batch hands back
-abbrev pub judged : CalledBatch → Reply
+abbrev pub judged : Batched Answered → Reply
 judged c =
-    record { world = record { tunnel = c .answered .tunnel; store = c .store }; answer = c .answered .answer; verdicts = c .verdicts }
+    record { world = record { tunnel = c .out .tunnel; store = c .store }; answer = c .out .answer; verdicts = c .verdicts }
 
 -- what a call hands back
 unfoldable pub step : World → Call → Reply

@@ -3,14 +3,14 @@
 use mathlib.Core.Path.{_≡_}
 use mathlib.Core.List.{List, [], _∷_}
 use Prim.Native.Nat.{_^_, _<_}
-use Rattle.control.specs.declared.answer.Answer.the-variants.{Polled, Report}
+use Rattle.tunnel.specs.declared.answer.Answer.the-variants.{Polled, Report}
 use Rattle.demands.specs.Calls.Call.{start, send, receive, response, timeout, event, missing}
 use Rattle.demands.specs.Calls.{Call, World, step, after, Creation, created, Good}
 use Rattle.demands.specs.Made.{made, insertions}
 use Rattle.demands.specs.Receiving.{historyOf, Batch, receiving, Live}
 use Rattle.demands.specs.Sending.{wokenGrants, granting, grants, countersOf}
-use Rattle.parts.specs.declared.event.Event.the-variants.{SendKeepalive}
-use Rattle.session.specs.Store.{zeros}
+use Rattle.tunnel.specs.declared.event.Event.the-variants.{SendKeepalive}
+use Rattle.base.specs.Lists.{zeros}
 
 -- index 256, no persistent keepalive, time 0
 unfoldable pub creation : Creation

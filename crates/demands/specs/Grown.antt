@@ -3,7 +3,7 @@ use mathlib.Core.Path.{_≡_}
 use mathlib.Core.Bool.{true}
 use mathlib.Core.List.{List}
 use Rattle.demands.specs.Calls.{Call, after, Creation, created, Good}
-use Rattle.tunnel.specs.Check.{undamaged}
+use Rattle.tunnel.specs.Damage.{undamaged}
 
 -- For every creation that is not turned down and every list of calls, refused ones included: number 14 lets the tunnel through.
 abbrev pub Grown : Type 0

@@ -1,6 +1,8 @@
+pub mod BatchExample
 pub mod Calls
 pub mod Example
 pub mod Grown
+pub mod History
 pub mod Made
 pub mod Marked
 pub mod Missing

@@ -1,11 +1,11 @@
 -- The calls that were made, each with what it was handed and what it handed back.
 use mathlib.Core.List.{List, [], _∷_}
 use Prim.Native.Nat.{ℕ, _+_}
-use Rattle.control.specs.declared.answer.Answer.the-variants.{No, Done, NoAnswer, Initiation, Response, Keepalive, Granted, Polled, Deadline, Report}
-use Rattle.control.specs.declared.answer.Answer.{Answer}
+use Rattle.tunnel.specs.declared.answer.Answer.the-variants.{No, Done, NoAnswer, Initiation, Response, Keepalive, Granted, Polled, Deadline, Report}
+use Rattle.tunnel.specs.declared.answer.Answer.{Answer}
 use Rattle.demands.specs.Calls.Call.{start, restart, send, receive, look, initiation, response, cookie, timeout, event, deadline, missing}
 use Rattle.demands.specs.Calls.{Call, World, Reply, step}
-use Rattle.session.specs.declared.range.Range.{Range}
+use Rattle.sessions.specs.declared.range.Range.{Range}
 
 -- a call that was made: the tunnel and the store just before it, the call, and what it handed back
 pub record Made : Type 0 where

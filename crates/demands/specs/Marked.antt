@@ -3,42 +3,39 @@ use mathlib.Core.Bool.{Bool, true, false, not}
 use mathlib.Core.List.{List, [], _∷_}
 use Prim.Native.Nat.{ℕ, zero, suc, _-_}
 use lib.Dec.{eqb}
-use Rattle.base.specs.Choice.{choose}
-use Rattle.control.specs.Answer.Word.{turned, bare, none, init, resp, key, est, exp, at}
-use Rattle.control.specs.Answer.{Word, eventValues, wordOf, valuesOf}
-use Rattle.control.specs.declared.answer.Answer.{Answer}
-use Rattle.parts.specs.RingBuffer.{newRing, pushBack, popFront}
-use Rattle.parts.specs.declared.event.Event.the-variants.{SendHandshakeInitiation}
-use Rattle.parts.specs.declared.ring_buffer.RingBuffer.{RingBuffer}
-use Rattle.session.specs.Session.{caseReserved, newSession, withCounter, reserveCounters}
-use Rattle.sessions.specs.Sessions.{caseFound, newSessions, nextIndex, inserting, select, sendingSession}
-use Rattle.session.specs.Store.{zeros}
-use Rattle.session.specs.declared.session.Role.the-variants.{Initiator, Responder}
-use Rattle.session.specs.declared.session.Role.{Role}
+use Rattle.base.specs.Choice.{choose, _and_}
+use Rattle.tunnel.specs.Answer.Word.{turned, bare, none, init, resp, key, est, exp, at}
+use Rattle.tunnel.specs.Answer.{Word, eventValues, wordOf, valuesOf}
+use Rattle.tunnel.specs.declared.answer.Answer.{Answer}
+use Rattle.tunnel.specs.RingBuffer.{newRing, pushBack, popFront}
+use Rattle.tunnel.specs.declared.event.Event.the-variants.{SendHandshakeInitiation}
+use Rattle.tunnel.specs.declared.ring_buffer.RingBuffer.{RingBuffer}
+use Rattle.sessions.specs.Cases.{caseReserved, caseFound}
+use Rattle.sessions.specs.Session.{newSession, withCounter, reserveCounters}
+use Rattle.sessions.specs.Sessions.{newSessions, nextIndex, inserting, select, sendingSession}
+use Rattle.base.specs.Lists.{zeros}
+use Rattle.sessions.specs.declared.session.Role.the-variants.{Initiator, Responder}
+use Rattle.sessions.specs.declared.session.Role.{Role}
 use Rattle.tunnel.specs.Tunnel.{callNew, callTimeout, callEvent, callDeadline}
 use Rattle.tunnel.specs.declared.tunnel.Tunnel.{Tunnel}
 use Rattle.window.specs.History.{Window, verdict, given}
-use Rattle.window.specs.Window.{limit, empty, setBit}
-
--- both tests hold
-abbrev pub both : Bool → Bool → Bool
-both a b = choose a b false
+use Rattle.window.specs.Window.{limit, setBit}
 
 -- two lists of numbers are the same
 unfoldable pub same : List ℕ → List ℕ → Bool
 same [] [] = true
 same [] (y ∷ ys) = false
 same (x ∷ xs) [] = false
-same (x ∷ xs) (y ∷ ys) = both (eqb x y) (same xs ys)
+same (x ∷ xs) (y ∷ ys) = eqb x y and same xs ys
 
 -- a window that stands at `next` with just these counters committed
 unfoldable pub standing : ℕ → List ℕ → Window
-standing next [] = record { words = empty; next = next }
+standing next [] = record { words = zeros 128; next = next }
 standing next (counter ∷ committed) = record { words = setBit (standing next committed .words) counter; next = next }
 
 -- two windows are the same
 unfoldable pub sameWindow : Window → Window → Bool
-sameWindow v w = both (eqb (v .next) (w .next)) (same (v .words) (w .words))
+sameWindow v w = eqb (v .next) (w .next) and same (v .words) (w .words)
 
 -- the window after counters were given to it, the first given first
 unfoldable pub after : Window → List ℕ → Window
@@ -77,7 +74,7 @@ code Word.missing = 10
 
 -- an answer has this word and these values
 unfoldable pub says : Answer → Word → List ℕ → Bool
-says answer word values = both (eqb (code (wordOf answer)) (code word)) (same (valuesOf answer) values)
+says answer word values = eqb (code (wordOf answer)) (code word) and same (valuesOf answer) values
 
 -- a ring into which so many events were put, the initiations 1, 2 on
 unfoldable pub filled : ℕ → RingBuffer
@@ -109,21 +106,21 @@ pub data Case : Type 0 where
 -- what a case says, as a test
 unfoldable pub holds : Case → Bool
 holds (onWindow next committed counters answers nextThen committedThen) =
-    both (same (verdicts (standing next committed) counters) answers)
-    (sameWindow (after (standing next committed) counters) (standing nextThen committedThen))
+    same (verdicts (standing next committed) counters) answers
+    and sameWindow (after (standing next committed) counters) (standing nextThen committedThen)
 holds (onCounters counter count answer) = same (reserving counter count) answer
 holds (onIndex last next) = eqb (nextIndex (newSessions last) .index) next
 holds (onAge role age answer) = choose answer (sends role age) (not (sends role age))
 holds (onRing events first) = same (eventValues (popFront (filled events) .event)) (first ∷ [])
 holds (onWaking keepalive now deadline kept) =
-    both (says (callEvent (wokenAt keepalive now) .answer) none [])
-    (both (says (callDeadline (wokenAt keepalive now) .answer) at (deadline ∷ []))
-    (eqb (wokenAt keepalive now .control .timers .«time_persistent_keepalive») kept))
+    says (callEvent (wokenAt keepalive now) .answer) none []
+    and says (callDeadline (wokenAt keepalive now) .answer) at (deadline ∷ [])
+    and eqb (wokenAt keepalive now .control .timers .«time_persistent_keepalive») kept
 
 -- every case of a table
 unfoldable pub holdAll : List Case → Bool
 holdAll [] = true
-holdAll (row ∷ table) = both (holds row) (holdAll table)
+holdAll (row ∷ table) = holds row and holdAll table
 
 -- the table
 unfoldable pub marked : List Case

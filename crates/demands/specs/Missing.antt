@@ -3,13 +3,13 @@ use mathlib.Core.Path.{_≡_}
 use mathlib.Core.Bool.{true}
 use mathlib.Core.List.{List}
 use Prim.Native.Nat.{ℕ, _-_, _^_, _<_}
-use Rattle.control.specs.declared.answer.Answer.the-variants.{Report}
+use Rattle.tunnel.specs.declared.answer.Answer.the-variants.{Report}
 use Rattle.demands.specs.Calls.Call.{missing}
 use Rattle.demands.specs.Calls.{Call, step, after, Creation, created, Good}
 use Rattle.demands.specs.Made.{made, insertions}
 use Rattle.demands.specs.Receiving.{historyOf}
 use Rattle.sessions.specs.Sessions.{slotAt}
-use Rattle.session.specs.declared.session.Session.{Session}
+use Rattle.sessions.specs.declared.session.Session.{Session}
 use Rattle.window.specs.History.{amongLast}
 
 -- the record of a slot after a list of calls

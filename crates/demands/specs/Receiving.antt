@@ -6,13 +6,13 @@ use Prim.Native.Nat.{ℕ, _+_, _-_, _^_, _≤_, _<_}
 use lib.Dec.{eqb}
 use lib.ListN.{length, getD, take}
 use Rattle.base.specs.Choice.{choose}
-use Rattle.control.specs.Answer.{numberOf}
-use Rattle.control.specs.Control.{expiredControl}
-use Rattle.control.specs.declared.answer.Answer.the-variants.{Done}
+use Rattle.tunnel.specs.Answer.{numberOf}
+use Rattle.tunnel.specs.Control.{expiredControl}
+use Rattle.tunnel.specs.declared.answer.Answer.the-variants.{Done}
 use Rattle.demands.specs.Calls.Call.{receive}
 use Rattle.demands.specs.Calls.{Call, World, Reply, step, after, Creation, created, Good}
 use Rattle.demands.specs.Made.{Made, made, caseBatch, insertions}
-use Rattle.sessions.specs.History.{recordedAll}
+use Rattle.demands.specs.History.{recordedAll}
 use Rattle.sessions.specs.Sessions.{slotAt}
 use Rattle.tunnel.specs.Arguments.{badBatch}
 use Rattle.tunnel.specs.Tunnel.{gate}

@@ -2,23 +2,25 @@
 use mathlib.Core.Path.{_≡_}
 use mathlib.Core.Bool.{Bool, false}
 use mathlib.Core.List.{List, [], _∷_, _++_}
-use Prim.Native.Nat.{ℕ, zero, suc, _-_, _^_, _≤_, _<_}
+use Prim.Native.Nat.{ℕ, _-_, _^_, _≤_, _<_}
 use lib.Dec.{eqb}
 use lib.ListN.{length}
 use Rattle.base.specs.Choice.{choose}
-use Rattle.control.specs.declared.answer.Answer.the-variants.{Granted, Polled}
-use Rattle.control.specs.declared.answer.Answer.{Answer}
+use Rattle.base.specs.Lists.{upFrom}
+use Rattle.tunnel.specs.declared.answer.Answer.the-variants.{Granted, Polled}
+use Rattle.tunnel.specs.declared.answer.Answer.{Answer}
 use Rattle.demands.specs.Calls.Call.{send, timeout, event}
 use Rattle.demands.specs.Calls.{Call, World, Reply, step, after, Creation, created, Good}
 use Rattle.demands.specs.Made.{Made, made, caseWaking, caseAnswer, insertions}
-use Rattle.parts.specs.Event.{caseEvent}
-use Rattle.parts.specs.RingBuffer.{placeOf, eventAt}
-use Rattle.parts.specs.declared.event.Event.the-variants.{Empty, SendKeepalive}
-use Rattle.parts.specs.declared.event.Event.{Event}
-use Rattle.parts.specs.declared.ring_buffer.RingBuffer.{RingBuffer}
-use Rattle.sessions.specs.Sessions.{caseFound, currentOf}
-use Rattle.session.specs.declared.range.Range.{Range}
-use Rattle.session.specs.declared.session.Session.{Session}
+use Rattle.tunnel.specs.Cases.{caseEvent}
+use Rattle.tunnel.specs.RingBuffer.{placeOf, eventAt}
+use Rattle.tunnel.specs.declared.event.Event.the-variants.{Empty, SendKeepalive}
+use Rattle.tunnel.specs.declared.event.Event.{Event}
+use Rattle.tunnel.specs.declared.ring_buffer.RingBuffer.{RingBuffer}
+use Rattle.sessions.specs.Cases.{caseFound}
+use Rattle.sessions.specs.Sessions.{currentOf}
+use Rattle.sessions.specs.declared.range.Range.{Range}
+use Rattle.sessions.specs.declared.session.Session.{Session}
 use Rattle.sessions.specs.declared.sessions.Found.the-variants.{Got}
 use Rattle.sessions.specs.declared.sessions.Found.{Found}
 use Rattle.window.specs.Window.{limit}
@@ -80,11 +82,6 @@ wokenGrants (m ∷ later) = wokenGrant (m .before) (m .call) (m .reply) ++ woken
 unfoldable pub grants : List Made → List Grant
 grants [] = []
 grants (m ∷ later) = answeredGrant (m .before) (m .reply .answer) ++ (wokenGrant (m .before) (m .call) (m .reply) ++ grants later)
-
--- so many numbers from one on
-unfoldable pub upFrom : (first length : ℕ) → List ℕ
-upFrom first zero = []
-upFrom first (suc length) = first ∷ upFrom (suc first) length
 
 -- the counters that a session was granted
 unfoldable pub countersOf : ℕ → List Grant → List ℕ

@@ -7,22 +7,24 @@ use mathlib.Core.Logic.{_⊎_}
 use Prim.Native.Nat.{ℕ, _≤_, _<_}
 use lib.Dec.{ltb, eqb}
 use Rattle.base.specs.Choice.{choose}
-use Rattle.control.specs.Control.{newControl, pollEvent}
-use Rattle.control.specs.Messages.{startHandshake, restartHandshake, handleHandshakeInitiation, handleHandshakeResponse, handleCookieReply}
-use Rattle.control.specs.Transport as transport
-use Rattle.waking.specs.Waking.{handleTimeout}
-use Rattle.control.specs.declared.answer.Answer.the-variants.{No, Deadline}
-use Rattle.control.specs.declared.answer.Answer.{Answer}
-use Rattle.control.specs.declared.control.Control.{Control}
-use Rattle.control.specs.declared.control.Out.{Out}
+use Rattle.tunnel.specs.Control.{newControl, pollEvent}
+use Rattle.tunnel.specs.InitiateHandshake.{startHandshake, restartHandshake}
+use Rattle.tunnel.specs.HandleHandshake.{handleHandshakeInitiation, handleHandshakeResponse, handleCookieReply}
+use Rattle.tunnel.specs.Encapsulate as encapsulate
+use Rattle.tunnel.specs.Decapsulate as decapsulate
+use Rattle.tunnel.specs.HandleTimeout.{handleTimeout}
+use Rattle.tunnel.specs.declared.answer.Answer.the-variants.{No, Deadline}
+use Rattle.tunnel.specs.declared.answer.Answer.{Answer}
+use Rattle.tunnel.specs.declared.control.Control.{Control}
+use Rattle.tunnel.specs.declared.control.Out.{Out}
 use Rattle.demands.specs.Calls.Call.{start, restart, send, receive, look, initiation, response, cookie, timeout, event, deadline, missing}
 use Rattle.demands.specs.Calls.{Call, World, Reply, step, after, Creation, created, Good}
-use Rattle.session.specs.Session.{timeLimit}
+use Rattle.sessions.specs.Session.{timeLimit}
 use Rattle.sessions.specs.Sessions.{currentOf}
-use Rattle.session.specs.Store.{zeros}
-use Rattle.session.specs.declared.session.Session.{Session}
-use Rattle.session.specs.declared.session.Time.the-variants.{Never, At}
-use Rattle.session.specs.declared.session.Time.{Time}
+use Rattle.base.specs.Lists.{zeros}
+use Rattle.sessions.specs.declared.session.Session.{Session}
+use Rattle.sessions.specs.declared.session.Time.the-variants.{Never, At}
+use Rattle.sessions.specs.declared.session.Time.{Time}
 use Rattle.sessions.specs.declared.sessions.Found.the-variants.{Got}
 use Rattle.tunnel.specs.Arguments.{intervalOf, openingOutcome, initiationOutcome, lacking, badOutcome, badJitter, badBatch}
 
@@ -61,13 +63,13 @@ took r bad now out store =
 unfoldable pub ran : Ran → Call → Ran
 ran r (start now) = took r false now (startHandshake (r .control) now) (r .store)
 ran r (restart now) = took r false now (restartHandshake (r .control) now) (r .store)
-ran r (send count now) = took r (eqb count 0) now (transport.send (r .control) count now) (r .store)
+ran r (send count now) = took r (eqb count 0) now (encapsulate.send (r .control) count now) (r .store)
 ran r (receive index id now counters kinds verdicts) =
     took r (badBatch (r .store) counters kinds verdicts) now
-    (transport.commitDecapsulate (r .control) (r .store) index id now counters kinds verdicts .out)
-    (transport.commitDecapsulate (r .control) (r .store) index id now counters kinds verdicts .store)
+    (decapsulate.commitDecapsulate (r .control) (r .store) index id now counters kinds verdicts .out)
+    (decapsulate.commitDecapsulate (r .control) (r .store) index id now counters kinds verdicts .store)
 ran r (look index counter now) =
-    took r (lacking (r .store)) now (transport.beginDecapsulate (r .control) (r .store) index counter now) (r .store)
+    took r (lacking (r .store)) now (decapsulate.beginDecapsulate (r .control) (r .store) index counter now) (r .store)
 ran r (initiation peer outcome now) =
     took r (badOutcome (initiationOutcome outcome) (r .store)) now
     (handleHandshakeInitiation (r .control) (r .store) peer (initiationOutcome outcome) now .out)

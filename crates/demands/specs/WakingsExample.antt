@@ -4,11 +4,11 @@ use mathlib.Core.Path.{_≡_}
 use mathlib.Core.List.{List, [], _∷_, _++_}
 use Prim.Native.Nat.{ℕ}
 use lib.ListN.{replicate}
-use Rattle.control.specs.declared.answer.Answer.the-variants.{No, Deadline}
+use Rattle.tunnel.specs.declared.answer.Answer.the-variants.{No, Deadline}
 use Rattle.demands.specs.Calls.Call.{start, send, response, timeout, event, deadline}
 use Rattle.demands.specs.Calls.{World, step, after, Creation, created}
 use Rattle.demands.specs.Wakings.{Step, shared, extra, plainCalls, wokenCalls, ranNew, Expired, ComesEarly, CurrentOrUnset, InOrder, Admissible, Agree, CreatedAlike}
-use Rattle.session.specs.declared.session.Time.the-variants.{At}
+use Rattle.sessions.specs.declared.session.Time.the-variants.{At}
 
 -- a creation at time 0 with a keepalive of so many seconds, over a store that has this number in each word
 abbrev pub creation : (word keepalive : ℕ) → Creation

@@ -2,8 +2,16 @@
 // ties a statement to the source.
 ghost use mathlib.Core.Path.{_≡_};
 ghost use mathlib.Core.Bool.{true};
+ghost use mathlib.Core.List.{List};
+ghost use Prim.Native.Nat.{ℕ};
+ghost use lib.ListN.{length};
+ghost use Rattle.window.specs.History.{Represents};
+ghost use Rattle.sessions.specs.declared.session.Session.{Session};
+ghost use Rattle.sessions.specs.declared.sessions.Sessions.{Sessions};
+ghost use Rattle.demands.specs.BatchExample.{BatchExampleLaw};
 ghost use Rattle.demands.specs.Example.{ExampleLaw};
 ghost use Rattle.demands.specs.Grown.{Grown};
+ghost use Rattle.demands.specs.History.{VerdictLaw, BatchCall, LiveBatch, BatchLaw, InsertedLaw, CountLaw};
 ghost use Rattle.demands.specs.Marked.{holdAll, marked};
 ghost use Rattle.demands.specs.Missing.{MissingReport};
 ghost use Rattle.demands.specs.Receiving.{Receiving};
@@ -24,6 +32,31 @@ pub fn grown_law()
 // Demand 2, receiving: which counters a live session commits.
 pub fn receiving_law()
     ensures { λ r. ⌜ Receiving ⌝ }
+{}
+
+// A message is given verdict 0 exactly if it opened and its counter is below the limit, not too old and not in the history.
+pub fn verdict_law()
+    ensures { λ r. ⌜ ((history : List ℕ) (counter kind : ℕ) → VerdictLaw history counter kind) ⌝ }
+{}
+
+// A batch gives each message the verdict that the session's history calls for, the batch's earlier messages included.
+pub fn batch_law()
+    ensures { λ r. ⌜ ((call : BatchCall) (session : Session) (history : List ℕ) → LiveBatch call session history → BatchLaw call history) ⌝ }
+{}
+
+// There is a call of which the batch's law speaks: counters 0, 5 and 0 again to a session just inserted give 0, 0 and 10.
+pub fn batch_example()
+    ensures { λ r. ⌜ BatchExampleLaw ⌝ }
+{}
+
+// A session just inserted stands for the empty history.
+pub fn inserted_law()
+    ensures { λ r. ⌜ ((s : Sessions) (store : List ℕ) (session : Session) → length (s .slots) ≡ 8 → length store ≡ 1024 → session .next ≡ 0 → InsertedLaw s store session) ⌝ }
+{}
+
+// The missing count of a window that stands for a history is 8,192 less the history's counters among the last 8,192.
+pub fn count_law()
+    ensures { λ r. ⌜ ((history words : List ℕ) (next : ℕ) → Represents history words next → CountLaw history words) ⌝ }
 {}
 
 // Demand 2, sending: the counters that a session grants.

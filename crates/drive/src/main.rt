@@ -1,5 +1,4 @@
 // Reads calls from standard input, one a line, and writes one line for each to standard output.
-use control::answer::Answer;
 use libc::STDIN_FILENO;
 use libc::STDOUT_FILENO;
 use script::answer::put_line;
@@ -10,6 +9,7 @@ use script::line::read;
 use script::line::starts;
 use text::gather::Gathered;
 use text::gather::newline;
+use tunnel::answer::Answer;
 use tunnel::tunnel::Answered;
 use tunnel::tunnel::Tunnel;
 ghost use Prim.Native.Nat.{_≤_};

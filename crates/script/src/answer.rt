@@ -1,13 +1,13 @@
 // Answers in text.
 use crate::line::Line;
-use control::answer::Answer;
-use parts::event::Event;
-use session::range::Range;
-use session::range::Split;
-use session::session::Time;
+use sessions::range::Range;
+use sessions::range::Split;
+use sessions::session::Time;
 use text::text::put;
 use text::text::put_number;
 use text::text::put_text;
+use tunnel::answer::Answer;
+use tunnel::event::Event;
 
 // Puts the numbers of a range.
 fn put_range(out: &mut [u8], at: usize, range: Range) -> usize {

@@ -2,7 +2,7 @@
 use crate::line::HandshakeCall;
 use crate::line::Line;
 use crate::line::SessionCall;
-use control::answer::Answer;
+use tunnel::answer::Answer;
 use tunnel::tunnel::Answered;
 use tunnel::tunnel::Tunnel;
 ghost use lib.ListN.{length};

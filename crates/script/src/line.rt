@@ -47,6 +47,7 @@ pub enum SessionCall {
     Missing { index: u32 },
 }
 
+// A line that was read: a call with its arguments, or none that can be read.
 pub enum Line {
     Unreadable,
     New {

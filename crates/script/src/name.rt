@@ -1,6 +1,7 @@
 // The names of the calls.
 use text::word::same;
 
+// The name of a call, or a word that names none.
 pub enum Name {
     Unknown,
     New,

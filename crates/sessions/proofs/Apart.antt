@@ -10,16 +10,17 @@ use lib.ListN.{length, getD, set}
 use lib.Seq.{getD-set-other}
 use borrow.Author.Tests.{eqb-true}
 use Rattle.base.specs.Choice.{choose}
-use Rattle.session.specs.declared.session.Session.{Session}
+use Rattle.sessions.specs.declared.session.Session.{Session}
 use Rattle.sessions.specs.declared.sessions.Found.the-variants.{Nothing}
 use Rattle.sessions.specs.declared.sessions.Sessions.{Sessions}
 use Rattle.sessions.specs.declared.sessions.Expired.{Expired}
-use Rattle.session.specs.Index.{slotOf}
-use Rattle.session.specs.Store.{putSlot, zeros}
-use Rattle.session.specs.Session.{emptySession, withId}
+use Rattle.sessions.specs.Index.{slotOf}
+use Rattle.sessions.specs.Store.{putSlot}
+use Rattle.base.specs.Lists.{zeros}
+use Rattle.sessions.specs.Session.{emptySession, withId}
 use Rattle.sessions.specs.Sessions.{expiring, slotAt, put, emptied, inserting, insert, isIndex, discard, expiredSlot, Expiring, expireSlot, expireFirst, expire}
 use Rattle.sessions.specs.Laws.{Kept}
-use Rattle.session.proofs.Words.{length-zeros, length-put, slot-other}
+use Rattle.sessions.proofs.Words.{length-put, slot-other}
 
 -- a slot that nothing was done to
 pub kept-same : (s : Sessions) (store : List ℕ) (slot : ℕ) → Kept s s store store slot
@@ -27,12 +28,12 @@ kept-same s store slot = record { session = refl; words = refl }
 
 -- a slot beside one whose record and words were put anew
 module _ (s : Sessions) (store : List ℕ) (l : length store ≡ 1024) (slot k : ℕ) (low : k < 8) (d : slot ≡ k → ⊥) where
-  pub kept-other : (last : Sessions) (x : Session) (words : List ℕ) → length words ≡ 128 → last .slots ≡ set (s .slots) k x
+  pub kept-other : (last : Sessions) (x : Session) (words : List ℕ) → last .slots ≡ set (s .slots) k x
       → Kept s last store (putSlot store k words) slot
-  kept-other last x words long e =
+  kept-other last x words e =
       record {
         session = ap (λ (slots : List Session). getD slots slot emptySession) e ∙ getD-set-other (s .slots) k slot x emptySession d;
-        words = slot-other store words k l low long slot d;
+        words = slot-other store words k l low slot d;
       }
 
 -- an insertion
@@ -44,7 +45,7 @@ kept-insert s store slot x d = go (eqb (length store) 1024) refl
     go : (b : Bool) → eqb (length store) 1024 ≡ b → Kept s (insert s store x .sessions) store (insert s store x .store) slot
     go true e =
         rw e
-        (kept-other s store (eqb-true (length store) 1024 e) slot (x .«receiving_index» % 8) (omega arith) d _ (withId x (s .inserted)) (zeros 128) (length-zeros 128) refl)
+        (kept-other s store (eqb-true (length store) 1024 e) slot (x .«receiving_index» % 8) (omega arith) d _ (withId x (s .inserted)) (zeros 128) refl)
     go false e = rw e (kept-same s store slot)
 
 -- an expiry under way keeps a slot that was not due at its beginning
@@ -80,11 +81,11 @@ module _ (s : Sessions) (store : List ℕ) (slot now : ℕ) (due : expiredSlot s
           let d : slot ≡ k → ⊥ = λ q. (let z : true ≡ false = sym p ∙ ap (λ (j : ℕ). expiredSlot (e .expired .sessions) j now) (sym q) ∙ still in
           let n : _≡_ {A = ℕ} 0 1 = cc in omega arith) in
           let o : Kept (e .expired .sessions) (discard (e .expired) k .sessions) (e .store) (putSlot (e .store) k (zeros 128)) slot =
-          kept-other (e .expired .sessions) (e .store) (y .size) slot k low d _ emptySession (zeros 128) (length-zeros 128) (discard-slots (e .expired) k) in
+          kept-other (e .expired .sessions) (e .store) (y .size) slot k low d _ emptySession (zeros 128) (discard-slots (e .expired) k) in
           rw p
           (record {
             kept = record { session = o .session ∙ y .kept .session; words = o .words ∙ y .kept .words };
-            size = length-put (e .store) (zeros 128) k (y .size) low (length-zeros 128);
+            size = length-put (e .store) (zeros 128) k (y .size) low;
           })
 
   stays-first : (e : Expiring) (count : ℕ) → count ≤ 8 → Stays s store slot e → Stays s store slot (expireFirst e count now)

@@ -7,12 +7,12 @@ use native.Mathlib.Omega.{arith}
 use lib.Dec.{eqb}
 use borrow.Author.Tests.{eqb-true, eqb-false}
 use Rattle.base.specs.Choice.{choose}
-use Rattle.session.specs.declared.session.Session.{Session}
+use Rattle.sessions.specs.declared.session.Session.{Session}
 use Rattle.sessions.specs.declared.sessions.Found.the-variants.{Got}
 use Rattle.sessions.specs.declared.sessions.Sessions.{Sessions}
-use Rattle.session.specs.Index.{slotOf, wrappingIncrement}
-use Rattle.sessions.specs.Sessions.{caseFound, currentOf, inCurrentSlot, indexAfter, nextIndex}
-use Rattle.sessions.specs.Laws.{NextIndexLaw}
+use Rattle.sessions.specs.Index.{slotOf, wrappingIncrement}
+use Rattle.sessions.specs.Cases.{caseFound}
+use Rattle.sessions.specs.Sessions.{currentOf, inCurrentSlot, indexAfter, nextIndex}
 
 -- the following number is in the following slot, under the same upper bits
 next-slot : (i : ℕ) → wrappingIncrement i % 8 ≡ (i + 1) % 8
@@ -29,19 +29,19 @@ unfolding inCurrentSlot caseFound
 slot-test s x i e = rw e
 
 module _ (s : Sessions) where
-  abbrev first : ℕ
+  abbrev pub first : ℕ
   first = wrappingIncrement (s .«last_index»)
 
-  takes-first : inCurrentSlot s first ≡ false → nextIndex s .index ≡ first
+  pub takes-first : inCurrentSlot s first ≡ false → nextIndex s .index ≡ first
   unfolding nextIndex indexAfter choose
   takes-first e = rw e
 
-  takes-second : inCurrentSlot s first ≡ true → nextIndex s .index ≡ wrappingIncrement first
+  pub takes-second : inCurrentSlot s first ≡ true → nextIndex s .index ≡ wrappingIncrement first
   unfolding nextIndex indexAfter choose
   takes-second e = rw e
 
   -- the two cases of a number allocated
-  other-slot : (x : Session) → currentOf s ≡ Got x → (b : Bool) → inCurrentSlot s first ≡ b → slotOf (nextIndex s .index) ≡ slotOf (x .«receiving_index») → ⊥
+  pub other-slot : (x : Session) → currentOf s ≡ Got x → (b : Bool) → inCurrentSlot s first ≡ b → slotOf (nextIndex s .index) ≡ slotOf (x .«receiving_index») → ⊥
   other-slot x c false e q =
       eqb-false (slotOf (x .«receiving_index»)) (slotOf first) (sym (slot-test s x first c) ∙ e) (sym (ap slotOf (sym (takes-first e)) ∙ q))
   other-slot x c true e q =
@@ -50,20 +50,10 @@ module _ (s : Sessions) where
       let there : slotOf (wrappingIncrement first) ≡ slotOf (x .«receiving_index») = ap slotOf (sym (takes-second e)) ∙ q in
       omega (arith, next-slot first)
 
-  same-upper : (b : Bool) → inCurrentSlot s first ≡ b → nextIndex s .index / 256 ≡ s .«last_index» / 256
+  pub same-upper : (b : Bool) → inCurrentSlot s first ≡ b → nextIndex s .index / 256 ≡ s .«last_index» / 256
   same-upper false e = ap (λ (i : ℕ). i / 256) (takes-first e) ∙ next-upper (s .«last_index»)
   same-upper true e = ap (λ (i : ℕ). i / 256) (takes-second e) ∙ next-upper first ∙ next-upper (s .«last_index»)
 
-  goes-on-from : nextIndex s .sessions .«last_index» ≡ nextIndex s .index
+  pub goes-on-from : nextIndex s .sessions .«last_index» ≡ nextIndex s .index
   unfolding nextIndex
   goes-on-from = refl
-
-  pub next-index-law : NextIndexLaw s
-  next-index-law =
-      record {
-        apart = λ x c. other-slot x c (inCurrentSlot s first) refl;
-        one = takes-first;
-        two = takes-second;
-        upper = same-upper (inCurrentSlot s first) refl;
-        goes-on = goes-on-from;
-      }

@@ -1,9 +1,13 @@
 pub mod Apart
 pub mod Batches
-pub mod Cases
 pub mod Indices
-pub mod Instance
-pub mod Judged
+pub mod Laws
+pub mod Lookups
 pub mod Loops
+pub mod Ones
 pub mod Received
+pub mod Reservations
+pub mod Sums
 pub mod Ways
+pub mod Wholes
+pub mod Words

@@ -13,14 +13,14 @@ use Rattle.base.specs.Choice.{choose}
 use Rattle.base.specs.First.{noneOf}
 use Rattle.base.proofs.Choice.{same-choice}
 use Rattle.base.proofs.First.{none-last}
-use Rattle.session.specs.declared.session.Time.{Time}
-use Rattle.session.specs.declared.session.Time.the-variants.{Never}
+use Rattle.sessions.specs.declared.session.Time.{Time}
+use Rattle.sessions.specs.declared.session.Time.the-variants.{Never}
 use Rattle.sessions.specs.declared.sessions.Found.the-variants.{Nothing}
 use Rattle.sessions.specs.declared.sessions.Sessions.{Sessions}
 use Rattle.sessions.specs.declared.sessions.Expired.{Expired}
-use Rattle.session.specs.Store.{whole, Leaves}
-use Rattle.session.specs.Session.{timeLimit, earlier}
-use Rattle.sessions.specs.Check.{slotHolds, slotsHold}
+use Rattle.sessions.specs.Store.{whole, Leaves}
+use Rattle.sessions.specs.Session.{timeLimit, earlier}
+use Rattle.sessions.specs.Damage.{slotHolds, slotsHold}
 use Rattle.sessions.specs.Sessions.{expiring, TimesWithin, slotAt, slotExpiry, firstExpiry, expiredSlot, noneExpired, Expiring, expireSlot, expireFirst, expire}
 
 -- the time of a slot, and the earliest expiry of one more slot

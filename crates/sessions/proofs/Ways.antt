@@ -1,24 +1,44 @@
--- One law for each way out of the ring's functions: what the code hands back is what the definition says, under the tests that led there.
+-- One law for each way out of the functions of a session and of the ring: what the code hands back is what the definition says, under the tests that led there.
 -- Assumes nothing.
-use mathlib.Core.Path.{_≡_, refl, ap, _∙_}
-use mathlib.Core.Bool.{Bool, true, false}
+use mathlib.Core.Path.{_≡_, ap, _∙_, refl}
+use mathlib.Core.Bool.{false, Bool, true}
 use mathlib.Core.List.{List, [], _∷_}
 use Prim.Native.Nat.{ℕ, _+_, _-_, _*_, _%_, _^_}
-use lib.ListN.{length, set, take, drop}
-use borrow.Author.Tests.{eq-eqb, ne-eqb}
+use lib.ListN.{length, take, drop, set}
 use Rattle.base.specs.Choice.{choose}
-use Rattle.session.specs.declared.session.Session.{Session}
+use Rattle.base.proofs.Choice.{yes-eq}
+use Rattle.window.specs.Window.{willAccept}
+use Rattle.sessions.specs.declared.session.Role.the-variants.{Initiator}
+use Rattle.sessions.specs.declared.session.Session.{Session}
+use Rattle.sessions.specs.Index.{slotOf, wrappingIncrement}
+use Rattle.sessions.specs.Store.{slotWords, putSlot, missingOf, Leaves}
+use Rattle.base.specs.Lists.{zeros}
+use Rattle.sessions.specs.Session.{newSession, withFilled, emptySession, willReceive, withId}
+use Rattle.sessions.proofs.Words.{part-is}
+use borrow.Author.Tests.{eq-eqb, ne-eqb}
 use Rattle.sessions.specs.declared.sessions.Found.{Found}
 use Rattle.sessions.specs.declared.sessions.Found.the-variants.{Nothing, Got}
 use Rattle.sessions.specs.declared.sessions.Selected.the-variants.{Unset}
 use Rattle.sessions.specs.declared.sessions.Missing.the-variants.{Refused, Count}
 use Rattle.sessions.specs.declared.sessions.Sessions.{Sessions}
 use Rattle.sessions.specs.declared.sessions.Expired.{Expired}
-use Rattle.session.specs.Index.{wrappingIncrement}
-use Rattle.session.specs.Store.{putSlot, zeros, missingOf, Leaves}
-use Rattle.session.specs.Session.{withId, emptySession}
-use Rattle.sessions.specs.Sessions.{expiring, caseFound, ring, withSlots, withCurrent, withLastIndex, withInserted, slotAt, emptySlots, newSessions, get, put, inCurrentSlot, indexAfter, nextIndex, inserting, insert, isIndex, clear, emptied, expiredSlot, discard, expireSlot, expire, missing}
-use Rattle.session.proofs.Words.{part-is}
+use Rattle.sessions.specs.Sessions.{expiring, ring, withSlots, withCurrent, withLastIndex, withInserted, slotAt, emptySlots, newSessions, get, put, inCurrentSlot, indexAfter, nextIndex, inserting, insert, isIndex, clear, emptied, expiredSlot, discard, expireSlot, expire, missing}
+use Rattle.sessions.specs.Cases.{caseFound}
+
+-- an empty slot's record, made from a new session
+pub empty-is : (s : Session) → s ≡ newSession 0 0 Initiator 0 → withFilled s false ≡ emptySession
+unfolding emptySession
+empty-is s e = rw e
+
+-- the early look at a part of the store
+pub looked : (s : Session) (store : List ℕ) (receiver counter start end r : ℕ) → length store ≡ 1024 → receiver ≡ s .«receiving_index»
+    → r ≡ willAccept (take (end - start) (drop start store)) (s .next) counter → start ≡ 128 * (receiver % 8) → end ≡ start + 128
+    → r ≡ willReceive s store receiver counter
+unfolding willReceive
+looked s store receiver counter start end r l i e b f =
+    yes-eq (length store) 1024 r (choose _ _ 6) 2 l
+    (yes-eq receiver (s .«receiving_index») r (willAccept (slotWords store (slotOf receiver)) (s .next) counter) 6 i
+    (e ∙ ap (λ (words : List ℕ). willAccept words (s .next) counter) (part-is store (receiver % 8) start end b f)))
 
 -- eight empty slots
 pub new-is : (e : Session) (index : ℕ) → e ≡ emptySession

@@ -1,6 +1,10 @@
 pub mod Batch
-pub mod Check
-pub mod Example
-pub mod History
+pub mod Cases
+pub mod Damage
+pub mod Index
 pub mod Laws
+pub mod Range
+pub mod Reservations
+pub mod Session
 pub mod Sessions
+pub mod Store

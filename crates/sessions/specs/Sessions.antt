@@ -7,12 +7,14 @@ use lib.Dec.{ltb, eqb}
 use lib.ListN.{getD, set, replicate}
 use Rattle.base.specs.Choice.{choose}
 use Rattle.base.specs.First.{noneOf}
-use Rattle.session.specs.Index.{slotOf, wrappingIncrement}
-use Rattle.session.specs.Store.{whole, slotWords, putSlot, zeros, missingOf}
-use Rattle.session.specs.Session.{timeLimit, caseRole, earlier, withId, emptySession, expiresAt, expiredAt, shouldUseAt, sendingCounterExhausted}
-use Rattle.session.specs.declared.session.Time.{Time}
-use Rattle.session.specs.declared.session.Time.the-variants.{Never, At}
-use Rattle.session.specs.declared.session.Session.{Session}
+use Rattle.sessions.specs.Index.{slotOf, wrappingIncrement}
+use Rattle.sessions.specs.Store.{whole, slotWords, putSlot, missingOf}
+use Rattle.base.specs.Lists.{zeros}
+use Rattle.sessions.specs.Session.{timeLimit, earlier, withId, emptySession, expiresAt, expiredAt, shouldUseAt, sendingCounterExhausted}
+use Rattle.sessions.specs.Cases.{caseRole, caseFound, caseSelected}
+use Rattle.sessions.specs.declared.session.Time.{Time}
+use Rattle.sessions.specs.declared.session.Time.the-variants.{Never, At}
+use Rattle.sessions.specs.declared.session.Session.{Session}
 use Rattle.sessions.specs.declared.sessions.Found.{Found}
 use Rattle.sessions.specs.declared.sessions.Found.the-variants.{Nothing, Got}
 use Rattle.sessions.specs.declared.sessions.Selected.{Selected}
@@ -22,22 +24,6 @@ use Rattle.sessions.specs.declared.sessions.Missing.the-variants.{Refuse
 use Rattle.sessions.specs.declared.sessions.Sessions.{Sessions}
 use Rattle.sessions.specs.declared.sessions.Allocated.{Allocated}
 use Rattle.sessions.specs.declared.sessions.Expired.{Expired}
-
-module _ {A : Type 0} where
-  -- one value for no session, one for each that was found
-  unfoldable pub caseFound : Found → A → (Session → A) → A
-  caseFound Nothing x f = x
-  caseFound (Got session) x f = f session
-
-  -- one value where no index is selected, one for each that is
-  unfoldable pub caseSelected : Selected → A → (ℕ → A) → A
-  caseSelected Unset x f = x
-  caseSelected (Index index) x f = f index
-
-  -- one value for each number that turns a missing report down, one for each count
-  unfoldable pub caseMissing : Missing → (ℕ → A) → (ℕ → A) → A
-  caseMissing (Refused number) f g = f number
-  caseMissing (Count count) f g = g count
 
 -- sessions of four fields
 abbrev pub ring : List Session → Selected → (last inserted : ℕ) → Sessions

@@ -1,21 +1,23 @@
 // A batch of received messages, over lists that the caller lends: a counter and a kind for each, and room for its verdict.
+use crate::session::Session;
 use crate::sessions::Found;
 use crate::sessions::Sessions;
-use session::session::Session;
 ghost use mathlib.Core.Bool.{false};
 ghost use mathlib.Core.Path.{_≡_};
 ghost use Prim.Native.Nat.{_<_};
 ghost use lib.Dec.{ltb};
 ghost use lib.ListN.{length};
 ghost use Rattle.base.specs.Choice.{choose};
-ghost use Rattle.session.specs.Store.{Leaves};
-ghost use Rattle.sessions.specs.Batch.{known, fits, finish, finishWords, FinishesAt, started, finishAll, Finishes, Ready, FinishesSlot, withProgress, refused, answered, receivingSession, commit, receive, Receives};
+ghost use Rattle.sessions.specs.Store.{Leaves};
+ghost use Rattle.sessions.specs.Batch.{LeavesBatch, known, fits, finishReceivePacketData, finishAt, finishAll, receivingSession, receive};
 
-// The kinds of a message: it opened as data, it opened as a keepalive, or it did not open.
+// The kind of a message that opened as data.
 pub const DATA: u8 = 0;
 
+// The kind of a message that opened as a keepalive.
 pub const KEEPALIVE: u8 = 1;
 
+// The kind of a message that did not open.
 pub const FAILED: u8 = 2;
 
 // What the messages of a batch have brought about so far.
@@ -34,13 +36,10 @@ pub struct Finished {
     pub progress: Progress,
 }
 
-// What a batch answers: 0 or the number that turns it down, and what was accepted into which session.
-pub struct Received {
-    pub sessions: Sessions,
-    pub number: u8,
-    pub accepted: bool,
-    pub data: bool,
-    pub established_at: u64,
+// What a batch answers: the number that turns it down, or its session afterwards and what its messages brought about.
+pub enum Received {
+    Rejected(u8),
+    Judged(Session, Progress),
 }
 
 // Whether a kind is one of the three, where those before it are.
@@ -89,7 +88,7 @@ fn finish_receive_packet_data(
     counter: u64,
     kind: u8,
 ) -> Finished
-    ensures { λ r. ⌜ Leaves r (finish (now (words .entry)) progress counter kind) (now (words .exit)) (finishWords (now (words .entry)) progress counter kind) ⌝ }
+    ensures { λ r. ⌜ Leaves r (finishReceivePacketData (now (words .entry)) progress counter kind .finished) (now (words .exit)) (finishReceivePacketData (now (words .entry)) progress counter kind .words) ⌝ }
 {
     if kind == FAILED {
         return Finished {
@@ -124,17 +123,6 @@ fn finish_receive_packet_data(
     }
 }
 
-// The progress of a session's batch before its first message.
-fn started(session: Session) -> Progress
-    ensures { λ r. ⌜ r ≡ started session ⌝ }
-{
-    Progress {
-        next: session.next,
-        accepted: false,
-        data: false,
-    }
-}
-
 // Commits the message at a place of the lists to a window's words, and puts its verdict at that place. The progress is handed back
 // field by field, without the padding between them.
 fn finish_at(
@@ -146,7 +134,7 @@ fn finish_at(
     i: usize,
 ) -> Progress
     requires { ⌜ (i < length (now counters)) × (length (now kinds) ≡ length (now counters)) × (length (now verdicts) ≡ length (now counters)) ⌝ }
-    ensures { λ r. ⌜ FinishesAt (now (words .entry)) progress (now (counters .entry)) (now (kinds .entry)) (now (verdicts .entry)) i r (now (words .exit)) (now (verdicts .exit)) ⌝ }
+    ensures { λ r. ⌜ LeavesBatch (finishAt (now (words .entry)) progress (now (counters .entry)) (now (kinds .entry)) (now (verdicts .entry)) i) r (now (words .exit)) (now (verdicts .exit)) ⌝ }
 {
     let finished = finish_receive_packet_data(words, progress, counters[i], kinds[i]);
     verdicts[i] = finished.verdict;
@@ -167,7 +155,7 @@ fn finish_all(
     verdicts: &mut [u8],
 ) -> Progress
     requires { ⌜ (length (now kinds) ≡ length (now counters)) × (length (now verdicts) ≡ length (now counters)) ⌝ }
-    ensures { λ r. ⌜ Finishes (finishAll (now (words .entry)) start (now (counters .entry)) (now (kinds .entry))) r (now (words .exit)) (now (verdicts .exit)) ⌝ }
+    ensures { λ r. ⌜ LeavesBatch (finishAll (now (words .entry)) start (now (counters .entry)) (now (kinds .entry))) r (now (words .exit)) (now (verdicts .exit)) ⌝ }
 {
     let mut progress = start;
     let mut i = 0;
@@ -178,59 +166,7 @@ fn finish_all(
     progress
 }
 
-// Commits the messages in order to the words of the session's slot, which are lent on by themselves.
-fn finish_slot(
-    store: &mut [u64],
-    session: Session,
-    counters: &[u64],
-    kinds: &[u8],
-    verdicts: &mut [u8],
-) -> Progress
-    requires { ⌜ Ready (now store) (now counters) (now kinds) (now verdicts) ⌝ }
-    ensures { λ r. ⌜ FinishesSlot (now (store .entry)) session (now (counters .entry)) (now (kinds .entry)) r (now (store .exit)) (now (verdicts .exit)) ⌝ }
-{
-    let start = 128 * (session.receiving_index % 8) as usize;
-    let end = start + 128;
-    finish_all(
-        &mut store[start..end],
-        started(session),
-        counters,
-        kinds,
-        verdicts,
-    )
-}
-
-// The session after a batch.
-fn with_progress(session: Session, progress: Progress) -> Session
-    ensures { λ r. ⌜ r ≡ withProgress session progress ⌝ }
-{
-    if progress.data {
-        return Session {
-            received_data: true,
-            next: progress.next,
-            ..session
-        };
-    }
-    Session {
-        next: progress.next,
-        ..session
-    }
-}
-
 impl Sessions {
-    // A batch that is turned down.
-    fn refused(self, number: u8) -> Received
-        ensures { λ r. ⌜ r ≡ refused self number ⌝ }
-    {
-        Received {
-            sessions: self,
-            number,
-            accepted: false,
-            data: false,
-            established_at: 0,
-        }
-    }
-
     // The session that a batch is for: the one with this index and id, if it is not expired.
     fn receiving_session(self, index: u32, id: u64, now: u64) -> Found
         ensures { λ r. ⌜ r ≡ receivingSession self index id now ⌝ }
@@ -247,42 +183,9 @@ impl Sessions {
         Found::Got(session)
     }
 
-    // The answer of a batch that was committed to a session.
-    fn answered(self, session: Session, progress: Progress) -> Received
-        ensures { λ r. ⌜ r ≡ answered self session progress ⌝ }
-    {
-        Received {
-            sessions: self.put(with_progress(session, progress)),
-            number: 0,
-            accepted: progress.accepted,
-            data: progress.data,
-            established_at: session.established_at,
-        }
-    }
-
-    // Commits a batch to the session with this index and id.
-    fn commit(
-        self,
-        store: &mut [u64],
-        index: u32,
-        id: u64,
-        now: u64,
-        counters: &[u64],
-        kinds: &[u8],
-        verdicts: &mut [u8],
-    ) -> Received
-        requires { ⌜ Ready (store .now) (counters .now) (kinds .now) (verdicts .now) ⌝ }
-        ensures { λ r. ⌜ Receives (commit self (store .entry .now) index id now (counters .entry .now) (kinds .entry .now) (verdicts .entry .now)) r (store .exit .now) (verdicts .exit .now) ⌝ }
-    {
-        let Found::Got(session) = self.receiving_session(index, id, now) else {
-            return self.refused(12);
-        };
-        let progress = finish_slot(store, session, counters, kinds, verdicts);
-        self.answered(session, progress)
-    }
-
-    // Accepts the messages of a batch for the session with this index and id, and gives each its verdict. Turned down by 2 for a
-    // store not of 1,024 words or lists that make no batch, then by 12 where there is no such session or it is expired.
+    // Gives each message of a batch for the session with this index and id its verdict, over the words of the session's slot, which
+    // are lent on by themselves. Turned down by 2 for a store not of 1,024 words or lists that make no batch, then by 12 where there
+    // is no such session or it is expired.
     pub fn receive(
         self,
         store: &mut [u64],
@@ -293,14 +196,30 @@ impl Sessions {
         kinds: &[u8],
         verdicts: &mut [u8],
     ) -> Received
-        ensures { λ r. ⌜ Receives (receive self (store .entry .now) index id now (counters .entry .now) (kinds .entry .now) (verdicts .entry .now)) r (store .exit .now) (verdicts .exit .now) ⌝ }
+        ensures { λ r. ⌜ LeavesBatch (receive self (store .entry .now) index id now (counters .entry .now) (kinds .entry .now) (verdicts .entry .now)) r (store .exit .now) (verdicts .exit .now) ⌝ }
     {
         if store.len() != 1024 {
-            return self.refused(2);
+            return Received::Rejected(2);
         }
-        if fits(counters, kinds, verdicts) {
-            return self.commit(store, index, id, now, counters, kinds, verdicts);
+        if !fits(counters, kinds, verdicts) {
+            return Received::Rejected(2);
         }
-        self.refused(2)
+        let Found::Got(session) = self.receiving_session(index, id, now) else {
+            return Received::Rejected(12);
+        };
+        let start = 128 * (session.receiving_index % 8) as usize;
+        let end = start + 128;
+        let before = Progress {
+            next: session.next,
+            accepted: false,
+            data: false,
+        };
+        let progress = finish_all(&mut store[start..end], before, counters, kinds, verdicts);
+        let after = Session {
+            received_data: session.received_data | progress.data,
+            next: progress.next,
+            ..session
+        };
+        Received::Judged(after, progress)
     }
 }

@@ -1,14 +1,18 @@
 // What is proved of the definitions beyond the calls' own contracts: one empty function for each law.
 ghost use mathlib.Core.Path.{_≡_};
 ghost use mathlib.Core.List.{List};
-ghost use Prim.Native.Nat.{ℕ};
+ghost use Prim.Native.Nat.{ℕ, _<_};
+ghost use Rattle.sessions.specs.declared.session.Session.{Session};
+ghost use Rattle.sessions.specs.Reservations.{ReservationLaw};
 ghost use lib.ListN.{length};
-ghost use Rattle.window.specs.History.{Represents};
-ghost use Rattle.session.specs.declared.session.Session.{Session};
+ghost use Rattle.sessions.specs.declared.batch.Progress.{Progress};
 ghost use Rattle.sessions.specs.declared.sessions.Sessions.{Sessions};
-ghost use Rattle.sessions.specs.Example.{ExampleLaw};
-ghost use Rattle.sessions.specs.Laws.{SlotsApart, NextIndexLaw};
-ghost use Rattle.sessions.specs.History.{VerdictLaw, Call, Live, BatchLaw, FreshLaw, MissingLaw};
+ghost use Rattle.sessions.specs.Laws.{SlotsApart, NextIndexLaw, LookupLaw, SlotLaw, WholeLaw, ExpiryLaw, FitsLaw, NextLaw};
+
+// The counters that a session grants to any list of reservations are 0, 1, 2 on, all below the limit.
+pub fn reservation_law()
+    ensures { λ r. ⌜ ((s : Session) (lens : List ℕ) → s .«sending_key_counter» ≡ 0 → ReservationLaw s lens) ⌝ }
+{}
 
 // A batch, an insertion and an expiry leave every slot that they do not name as it was.
 pub fn slots_apart()
@@ -20,27 +24,32 @@ pub fn next_index_law()
     ensures { λ r. ⌜ ((s : Sessions) → NextIndexLaw s) ⌝ }
 {}
 
-// A message is given verdict 0 exactly if it opened and its counter is below the limit, not too old and not in the history.
-pub fn verdict_law()
-    ensures { λ r. ⌜ ((history : List ℕ) (counter kind : ℕ) → VerdictLaw history counter kind) ⌝ }
+// What the lookups find: a session that fills its slot, and for sending the current one.
+pub fn lookup_law()
+    ensures { λ r. ⌜ ((s : Sessions) → LookupLaw s) ⌝ }
 {}
 
-// A batch gives each message the verdict that the session's history calls for, the batch's earlier messages included.
-pub fn batch_law()
-    ensures { λ r. ⌜ ((call : Call) (session : Session) (history : List ℕ) → Live call session history → BatchLaw call history) ⌝ }
+// Words put into a slot leave every other slot's words and the store's length as they were.
+pub fn slot_law()
+    ensures { λ r. ⌜ ((store words : List ℕ) (slot : ℕ) → length store ≡ 1024 → slot < 8 → SlotLaw store words slot) ⌝ }
 {}
 
-// There is a call of which the batch's law speaks: counters 0, 5 and 0 again to a session just inserted give 0, 0 and 10.
-pub fn example_law()
-    ensures { λ r. ⌜ ExampleLaw ⌝ }
+// Every operation hands a store of 1,024 words back with so many.
+pub fn whole_law()
+    ensures { λ r. ⌜ ((s : Sessions) (store : List ℕ) → length store ≡ 1024 → WholeLaw s store) ⌝ }
 {}
 
-// A session just inserted stands for the empty history.
-pub fn fresh_law()
-    ensures { λ r. ⌜ ((s : Sessions) (store : List ℕ) (session : Session) → length (s .slots) ≡ 8 → length store ≡ 1024 → session .next ≡ 0 → FreshLaw s store session) ⌝ }
+// An expiry that finds no session expired changes nothing.
+pub fn expiry_law()
+    ensures { λ r. ⌜ ((s : Sessions) (store : List ℕ) (now : ℕ) → ExpiryLaw s store now) ⌝ }
 {}
 
-// The missing count is 8,192 less the history's counters among the last 8,192.
-pub fn missing_law()
-    ensures { λ r. ⌜ ((history words : List ℕ) (next : ℕ) → Represents history words next → MissingLaw history words) ⌝ }
+// Lists that make a batch are of one length.
+pub fn fits_law()
+    ensures { λ r. ⌜ ((counters kinds verdicts : List ℕ) → FitsLaw counters kinds verdicts) ⌝ }
+{}
+
+// The messages of a batch keep the window's next at most the limit.
+pub fn next_law()
+    ensures { λ r. ⌜ ((words : List ℕ) (progress : Progress) (counters kinds : List ℕ) → NextLaw words progress counters kinds) ⌝ }
 {}

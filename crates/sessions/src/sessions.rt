@@ -1,16 +1,16 @@
 // A ring of recent sessions, each in the slot of its local index modulo 8.
-use session::index::wrapping_increment;
-use session::session::Role;
-use session::session::Session;
-use session::session::Time;
-use session::session::earlier;
-use session::store::missing_of;
-use session::store::zero;
-use session::store::zero_slot;
+use crate::index::wrapping_increment;
+use crate::session::Role;
+use crate::session::Session;
+use crate::session::Time;
+use crate::session::earlier;
+use crate::store::missing_of;
+use crate::store::zero;
+use crate::store::zero_slot;
 ghost use mathlib.Core.Path.{_≡_};
 ghost use Prim.Native.Nat.{_<_};
 ghost use lib.ListN.{length};
-ghost use Rattle.session.specs.Store.{Leaves};
+ghost use Rattle.sessions.specs.Store.{Leaves};
 ghost use Rattle.sessions.specs.Sessions.{TimesWithin, newSessions, inSlotOf, get, put, currentOf, inCurrentSlot, nextIndex, insert, usable, sendingSession, isIndex, select, setCurrent, clear, emptied, expiredSlot, noneExpired, discard, expiring, expireSlot, expire, isEmpty, slotExpiry, nextExpiry, missing};
 
 // What a lookup answers.

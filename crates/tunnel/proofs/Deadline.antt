@@ -3,21 +3,14 @@
 use mathlib.Core.Path.{_≡_, refl, sym, _∙_}
 use mathlib.Core.Bool.{true}
 use Rattle.base.specs.Choice.{choose}
-use Rattle.control.specs.Deadlines.{pollTimeout}
-use Rattle.control.specs.declared.answer.Answer.the-variants.{Deadline}
-use Rattle.tunnel.specs.Check.{undamaged}
+use Rattle.tunnel.specs.PollTimeout.{pollTimeout}
+use Rattle.tunnel.specs.declared.answer.Answer.the-variants.{Deadline}
+use Rattle.tunnel.specs.Damage.{undamaged}
 use Rattle.tunnel.specs.Deadline.{DeadlineLaw}
 use Rattle.tunnel.specs.Tunnel.{timelessGate, timeless, settled, callDeadline}
 use Rattle.tunnel.specs.declared.tunnel.Tunnel.{Tunnel}
 
--- the law of the deadline
-deadline-answer : (t : Tunnel) → undamaged t ≡ true → callDeadline t .answer ≡ Deadline (pollTimeout (t .control) (t .«last_update»))
+-- the answer of a deadline
+pub deadline-answer : (t : Tunnel) → undamaged t ≡ true → callDeadline t .answer ≡ Deadline (pollTimeout (t .control) (t .«last_update»))
 unfolding callDeadline timeless timelessGate settled choose
 deadline-answer t p = rw p refl
-
-pub deadline-law : (t : Tunnel) → DeadlineLaw t
-deadline-law t =
-    record {
-      answer = deadline-answer t;
-      alike = λ u p q c l. deadline-answer t p ∙ rw (c, l) (sym (deadline-answer u q));
-    }

@@ -10,22 +10,23 @@ use lib.ListN.{length}
 use borrow.Author.Tests.{ltb-false, eqb-true, eq-eqb, ne-eqb}
 use Rattle.base.proofs.Choice.{yes-eq, no-eq}
 use Rattle.base.specs.Choice.{choose}
-use Rattle.control.specs.Control.{Turn, outcome}
-use Rattle.control.specs.Deadlines.{pollTimeout}
-use Rattle.control.specs.Facts.{ControlWithin}
-use Rattle.control.specs.Messages.{handleHandshakeInitiation, handleHandshakeResponse, handleCookieReply}
-use Rattle.control.specs.Transport.{Batched, Commits}
-use Rattle.control.specs.declared.answer.Answer.the-variants.{Done, Deadline}
-use Rattle.control.specs.declared.control.Out.{Out}
-use Rattle.parts.specs.RingBuffer.{RingWithin}
-use Rattle.parts.specs.Timers.{maxJitter, greatestInterval}
-use Rattle.session.specs.Session.{timeLimit}
-use Rattle.session.specs.Store.{Leaves, whole, zeros}
-use Rattle.session.specs.declared.session.Time.{Time}
+use Rattle.tunnel.specs.Control.{Turn, outcome}
+use Rattle.tunnel.specs.PollTimeout.{pollTimeout}
+use Rattle.tunnel.specs.Facts.{ControlWithin}
+use Rattle.tunnel.specs.HandleHandshake.{handleHandshakeInitiation, handleHandshakeResponse, handleCookieReply}
+use Rattle.tunnel.specs.declared.answer.Answer.the-variants.{Done, Deadline}
+use Rattle.tunnel.specs.declared.control.Out.{Out}
+use Rattle.tunnel.specs.RingBuffer.{RingWithin}
+use Rattle.tunnel.specs.Timers.{maxJitter, greatestInterval}
+use Rattle.sessions.specs.Batch.{Batched, LeavesBatch}
+use Rattle.sessions.specs.Session.{timeLimit}
+use Rattle.sessions.specs.Store.{Leaves, whole}
+use Rattle.base.specs.Lists.{zeros}
+use Rattle.sessions.specs.declared.session.Time.{Time}
 use Rattle.tunnel.proofs.Facts.{let-through}
 use Rattle.tunnel.specs.Arguments.{openingOutcome, initiationOutcome, lacking, badOutcome, badJitter, creationNumber}
-use Rattle.tunnel.specs.Check.{undamaged}
-use Rattle.tunnel.specs.Tunnel.{answered, made, gate, timelessGate, refused, settled, timed, timeless, kept, timedTurn, timedBatch, LeavesBatch, callNew, callInitiation, callResponse, callCookie, callDeadline}
+use Rattle.tunnel.specs.Damage.{undamaged}
+use Rattle.tunnel.specs.Tunnel.{answered, made, gate, timelessGate, refused, settled, timed, timeless, kept, timedTurn, timedBatch, callNew, callInitiation, callResponse, callCookie, callDeadline}
 use Rattle.tunnel.specs.declared.tunnel.Answered.{Answered}
 use Rattle.tunnel.specs.declared.tunnel.Tunnel.{Tunnel}
 
@@ -73,6 +74,9 @@ module _ (t : Tunnel) (bad : Bool) (now : ℕ) (z : gate t bad now ≡ 0) where
 
   pub gate-good : bad ≡ false
   gate-good = opened .good
+
+  pub gate-whole : undamaged t ≡ true
+  gate-whole = opened .sound
 
 -- the same of the number that the code has found
 module _ (t : Tunnel) (bad sound : Bool) (now number : ℕ) (n : number ≡ tested bad sound (t .greatest) now) (s : sound ≡ undamaged t) (z : number ≡ 0) where
@@ -138,7 +142,7 @@ module _ (t : Tunnel) (bad is sound : Bool) (now number : ℕ) (b : bad ≡ is) 
   way-turn-settled store left turn out a z o r =
       record { out = way-settled out (turn .out) a z (o .out) r; words = kept-settled store left (turn .store) z (o .words) }
 
-  pub way-batch-refused : (store verdicts : List ℕ) (batch : Batched) (a : Answered) → (number ≡ 0 → ⊥) → a ≡ refused t number
+  pub way-batch-refused : (store verdicts : List ℕ) (batch : Batched Out) (a : Answered) → (number ≡ 0 → ⊥) → a ≡ refused t number
       → LeavesBatch (timedBatch t is now store verdicts batch) a store verdicts
   unfolding timedBatch
   way-batch-refused store verdicts batch a z r =
@@ -148,7 +152,7 @@ module _ (t : Tunnel) (bad is sound : Bool) (now number : ℕ) (b : bad ≡ is) 
         list = kept-refused verdicts (batch .verdicts) z;
       }
 
-  pub way-batch-settled : (store verdicts left list : List ℕ) (batch : Batched) (out : Out) (a : Answered) → number ≡ 0 → Commits batch out left list
+  pub way-batch-settled : (store verdicts left list : List ℕ) (batch : Batched Out) (out : Out) (a : Answered) → number ≡ 0 → LeavesBatch batch out left list
       → a ≡ settled t now out → LeavesBatch (timedBatch t is now store verdicts batch) a left list
   unfolding timedBatch
   way-batch-settled store verdicts left list batch out a z o r =

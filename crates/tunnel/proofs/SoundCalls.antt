@@ -9,21 +9,22 @@ use lib.Dec.{eqb}
 use lib.ListN.{length}
 use borrow.Author.Tests.{eqb-true, eqb-false}
 use Rattle.base.specs.Choice.{choose}
-use Rattle.control.proofs.Kept.{never-within, on-new, on-new-handshake, on-new-ring}
-use Rattle.control.proofs.SoundOperations.{SoundOut, SoundStill, unraising, restart-sound, start-sound, send-sound, batch-sound, look-sound, cookie-sound, response-sound, event-sound, missing-sound, initiation-sound}
-use Rattle.control.proofs.SoundSteps.{known-choice, SoundControl, eight-empty}
-use Rattle.control.proofs.Steps.{all-empty}
-use Rattle.control.specs.Control.{newControl}
-use Rattle.control.specs.declared.answer.Answer.the-variants.{Done}
-use Rattle.control.specs.declared.control.Out.{Out}
-use Rattle.parts.proofs.Queue.{queue-of-newest}
-use Rattle.parts.specs.Timers.{IntervalWithin, greatestInterval}
-use Rattle.parts.specs.declared.timers.Interval.the-variants.{Off, Every}
-use Rattle.parts.specs.declared.timers.Interval.{Interval}
-use Rattle.session.proofs.Words.{length-zeros}
-use Rattle.session.specs.Session.{timeLimit}
+use Rattle.tunnel.proofs.Kept.{never-within, on-new, on-new-handshake, on-new-ring}
+use Rattle.tunnel.proofs.SoundOperations.{SoundOut, SoundStill, unraising, restart-sound, start-sound, send-sound, batch-sound, look-sound, cookie-sound, response-sound, event-sound, missing-sound, initiation-sound}
+use Rattle.base.proofs.Choice.{known-choice, no-fault}
+use Rattle.tunnel.proofs.SoundSteps.{SoundControl, eight-empty}
+use Rattle.tunnel.proofs.Steps.{all-empty}
+use Rattle.tunnel.specs.Control.{newControl}
+use Rattle.tunnel.specs.declared.answer.Answer.the-variants.{Done}
+use Rattle.tunnel.specs.declared.control.Out.{Out}
+use Rattle.tunnel.proofs.Queue.{queue-of-newest}
+use Rattle.tunnel.specs.Timers.{IntervalWithin, greatestInterval}
+use Rattle.tunnel.specs.declared.timers.Interval.the-variants.{Off, Every}
+use Rattle.tunnel.specs.declared.timers.Interval.{Interval}
+use Rattle.base.proofs.Zeros.{length-zeros}
+use Rattle.sessions.specs.Session.{timeLimit}
 use Rattle.sessions.specs.Sessions.{newSessions}
-use Rattle.session.specs.Store.{whole}
+use Rattle.sessions.specs.Store.{whole}
 use Rattle.tunnel.proofs.Facts.{undamaged-facts, undamaged-holds}
 use Rattle.tunnel.proofs.Framed.{gate-onward, gate-now, gate-good, small-jitter, GoodCreation, good-creation}
 use Rattle.tunnel.specs.Arguments.{intervalOf, openingOutcome, initiationOutcome, lacking, badOutcome, creationNumber}
@@ -32,7 +33,7 @@ use Rattle.tunnel.specs.Sound.{Sound, SoundLaw, CreatedLaw}
 use Rattle.tunnel.specs.Tunnel.{made, gate, timelessGate, refused, settled, timed, timeless, Called, timedTurn, timedBatch, callNew, callStart, callRestart, callSend, callReceive, callLook, callInitiation, callResponse, callCookie, callTimeout, callEvent, callDeadline, callMissing}
 use Rattle.tunnel.specs.declared.tunnel.Answered.{Answered}
 use Rattle.tunnel.specs.declared.tunnel.Tunnel.{Tunnel}
-use Rattle.waking.proofs.SoundWaking.{timeout-sound}
+use Rattle.tunnel.proofs.SoundWaking.{timeout-sound}
 
 -- a sound tunnel's control, and a tunnel with a sound control
 pub its-control : (t : Tunnel) → Sound t → SoundControl (t .control) (t .greatest)
@@ -85,20 +86,14 @@ module _ (t : Tunnel) (s : Sound t) where
       known-choice (λ (y : Answered). Sound (y .tunnel)) (eqb (timelessGate t bad) 0) _ _ (λ e. unsettled-sound out o) (λ e. s)
 
 -- a store that comes with a good outcome
-pub full-store : (wrong full : Bool) → choose wrong true (choose full false true) ≡ false → full ≡ true
-unfolding choose
-full-store true full e = absurd (true≢false e)
-full-store false true e = refl
-full-store false false e = absurd (true≢false e)
-
 good-store : (found : ℕ) (store : List ℕ) → badOutcome found store ≡ false → length store ≡ 1024
 unfolding badOutcome lacking
-good-store found store e = eqb-true (length store) 1024 (full-store (eqb found 2) (whole store) e)
+good-store found store e = eqb-true (length store) 1024 (no-fault (eqb found 2) (whole store) e)
 
 -- the calls
-pub sound-law : (t : Tunnel) → Sound t → SoundLaw t
+pub calls-sound : (t : Tunnel) → Sound t → SoundLaw t
 unfolding callStart callRestart callSend callReceive callLook callInitiation callResponse callCookie callTimeout callEvent callDeadline callMissing timedTurn timedBatch
-sound-law t s =
+calls-sound t s =
     let w : SoundControl (t .control) (t .greatest) = its-control t s in
     record {
       start = λ now. timed-sound t s _ now _ (λ b l. start-sound (t .greatest) now l (t .control) w);
@@ -160,9 +155,9 @@ module _ (store : List ℕ) (index keepalive now : ℕ) where
       let g : GoodCreation store keepalive now = good-creation store keepalive now z in
       made-sound index keepalive now (g .keepalive) (g .time)
 
-  pub created-law : CreatedLaw store index keepalive now
+  pub creation-sound : CreatedLaw store index keepalive now
   unfolding callNew refused
-  created-law =
+  creation-sound =
       record {
         tunnel = known-choice (λ (y : Called). Sound (y .answered .tunnel)) (eqb (creationNumber store keepalive now) 0) _ _
             (λ e. good-made (eqb-true _ 0 e)) (λ e. made-sound 0 0 0 (omega arith) (omega arith));

@@ -4,12 +4,12 @@ use mathlib.Core.List.{List}
 use Prim.Native.Nat.{ℕ}
 use lib.Dec.{ltb, eqb}
 use Rattle.base.specs.Choice.{choose}
-use Rattle.parts.specs.Timers.{maxJitter, greatestInterval}
-use Rattle.parts.specs.declared.timers.Interval.{Interval}
-use Rattle.parts.specs.declared.timers.Interval.the-variants.{Off, Every}
+use Rattle.tunnel.specs.Timers.{maxJitter, greatestInterval}
+use Rattle.tunnel.specs.declared.timers.Interval.{Interval}
+use Rattle.tunnel.specs.declared.timers.Interval.the-variants.{Off, Every}
 use Rattle.sessions.specs.Batch.{fits}
-use Rattle.session.specs.Session.{timeLimit}
-use Rattle.session.specs.Store.{whole}
+use Rattle.sessions.specs.Session.{timeLimit}
+use Rattle.sessions.specs.Store.{whole}
 
 -- the keepalive interval that a number of seconds stands for: 0 is none
 unfoldable pub intervalOf : ℕ → Interval

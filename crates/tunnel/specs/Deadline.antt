@@ -1,9 +1,9 @@
 -- What demand 3 rests on: the deadline reads the control and the last update only.
 use mathlib.Core.Path.{_≡_}
 use mathlib.Core.Bool.{true}
-use Rattle.control.specs.Deadlines.{pollTimeout}
-use Rattle.control.specs.declared.answer.Answer.the-variants.{Deadline}
-use Rattle.tunnel.specs.Check.{undamaged}
+use Rattle.tunnel.specs.PollTimeout.{pollTimeout}
+use Rattle.tunnel.specs.declared.answer.Answer.the-variants.{Deadline}
+use Rattle.tunnel.specs.Damage.{undamaged}
 use Rattle.tunnel.specs.Tunnel.{callDeadline}
 use Rattle.tunnel.specs.declared.tunnel.Tunnel.{Tunnel}
 

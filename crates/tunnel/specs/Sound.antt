@@ -4,23 +4,9 @@ use mathlib.Core.Bool.{true}
 use mathlib.Core.List.{List}
 use Prim.Native.Nat.{ℕ}
 use lib.ListN.{length}
-use Rattle.control.specs.declared.answer.Answer.the-variants.{Done}
-use Rattle.tunnel.specs.Check.{undamaged}
-use Rattle.tunnel.specs.Tunnel.{
-  callNew,
-  callStart,
-  callRestart,
-  callSend,
-  callReceive,
-  callLook,
-  callInitiation,
-  callResponse,
-  callCookie,
-  callTimeout,
-  callEvent,
-  callDeadline,
-  callMissing,
-}
+use Rattle.tunnel.specs.declared.answer.Answer.the-variants.{Done}
+use Rattle.tunnel.specs.Damage.{undamaged}
+use Rattle.tunnel.specs.Tunnel.{callNew, callStart, callRestart, callSend, callReceive, callLook, callInitiation, callResponse, callCookie, callTimeout, callEvent, callDeadline, callMissing}
 use Rattle.tunnel.specs.declared.tunnel.Tunnel.{Tunnel}
 
 -- a tunnel that number 14 lets through, with the eight slots and the sixteen places for events that its arrays have
@@ -35,7 +21,7 @@ pub record SoundLaw (t : Tunnel) : Type 0 where
   pub restart : (now : ℕ) → Sound (callRestart t now .tunnel)
   pub send : (count now : ℕ) → Sound (callSend t count now .tunnel)
   pub receive : (store : List ℕ) (index id now : ℕ) (counters kinds verdicts : List ℕ)
-      → Sound (callReceive t store index id now counters kinds verdicts .answered .tunnel)
+      → Sound (callReceive t store index id now counters kinds verdicts .out .tunnel)
   pub look : (store : List ℕ) (index counter now : ℕ) → Sound (callLook t store index counter now .tunnel)
   pub initiation : (store : List ℕ) (peer outcome now : ℕ) → Sound (callInitiation t store peer outcome now .answered .tunnel)
   pub response : (store : List ℕ) (receiver peer outcome now : ℕ) → Sound (callResponse t store receiver peer outcome now .answered .tunnel)

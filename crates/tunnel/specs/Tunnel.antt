@@ -1,22 +1,24 @@
 -- The calls: the checks 1, 2, 14 and 13 as one frame around what the Rust does, then the answer.
-use mathlib.Core.Path.{_≡_}
 use mathlib.Core.Bool.{Bool, false}
 use mathlib.Core.List.{List}
 use Prim.Native.Nat.{ℕ}
 use lib.Dec.{ltb, eqb}
 use Rattle.base.specs.Choice.{choose}
-use Rattle.control.specs.Control.{Turn, newControl, outcome, pollEvent, missingReport}
-use Rattle.control.specs.Deadlines.{pollTimeout}
-use Rattle.control.specs.Messages.{startHandshake, restartHandshake, handleHandshakeInitiation, handleHandshakeResponse, handleCookieReply}
-use Rattle.control.specs.Transport.{Batched, send, commitDecapsulate, beginDecapsulate}
-use Rattle.waking.specs.Waking.{handleTimeout}
-use Rattle.control.specs.declared.answer.Answer.the-variants.{No, Done, Deadline}
-use Rattle.control.specs.declared.answer.Answer.{Answer}
-use Rattle.control.specs.declared.control.Out.{Out}
-use Rattle.session.specs.Session.{timeLimit}
-use Rattle.session.specs.Store.{zeros}
+use Rattle.tunnel.specs.Control.{Turn, newControl, outcome, pollEvent, missingReport}
+use Rattle.tunnel.specs.PollTimeout.{pollTimeout}
+use Rattle.tunnel.specs.InitiateHandshake.{startHandshake, restartHandshake}
+use Rattle.tunnel.specs.HandleHandshake.{handleHandshakeInitiation, handleHandshakeResponse, handleCookieReply}
+use Rattle.tunnel.specs.Decapsulate.{commitDecapsulate, beginDecapsulate}
+use Rattle.tunnel.specs.Encapsulate.{send}
+use Rattle.tunnel.specs.HandleTimeout.{handleTimeout}
+use Rattle.tunnel.specs.declared.answer.Answer.the-variants.{No, Done, Deadline}
+use Rattle.tunnel.specs.declared.answer.Answer.{Answer}
+use Rattle.tunnel.specs.declared.control.Out.{Out}
+use Rattle.sessions.specs.Batch.{Batched}
+use Rattle.sessions.specs.Session.{timeLimit}
+use Rattle.base.specs.Lists.{zeros}
 use Rattle.tunnel.specs.Arguments.{intervalOf, openingOutcome, initiationOutcome, lacking, badOutcome, badJitter, badBatch, creationNumber}
-use Rattle.tunnel.specs.Check.{undamaged}
+use Rattle.tunnel.specs.Damage.{undamaged}
 use Rattle.tunnel.specs.declared.tunnel.Answered.{Answered}
 use Rattle.tunnel.specs.declared.tunnel.Tunnel.{Tunnel}
 
@@ -68,21 +70,15 @@ pub record Called : Type 0 where
   pub answered : Answered
   pub store : List ℕ
 
--- what a batch hands back
-pub record CalledBatch : Type 0 where
-  pub answered : Answered
-  pub store : List ℕ
-  pub verdicts : List ℕ
-
 -- the frame of a call at a time with a store
 unfoldable pub timedTurn : Tunnel → Bool → ℕ → List ℕ → Turn → Called
 timedTurn t bad now store turn = record { answered = timed t bad now (turn .out); store = kept t bad now store (turn .store) }
 
 -- the frame of a batch
-unfoldable pub timedBatch : Tunnel → Bool → ℕ → (store verdicts : List ℕ) → Batched → CalledBatch
+unfoldable pub timedBatch : Tunnel → Bool → ℕ → (store verdicts : List ℕ) → Batched Out → Batched Answered
 timedBatch t bad now store verdicts batch =
     record {
-      answered = timed t bad now (batch .out);
+      out = timed t bad now (batch .out);
       store = kept t bad now store (batch .store);
       verdicts = kept t bad now verdicts (batch .verdicts);
     }
@@ -107,7 +103,7 @@ unfoldable pub callSend : Tunnel → (count now : ℕ) → Answered
 callSend t count now = timed t (eqb count 0) now (send (t .control) count now)
 
 -- receiving
-unfoldable pub callReceive : Tunnel → List ℕ → (index id now : ℕ) → (counters kinds verdicts : List ℕ) → CalledBatch
+unfoldable pub callReceive : Tunnel → List ℕ → (index id now : ℕ) → (counters kinds verdicts : List ℕ) → Batched Answered
 callReceive t store index id now counters kinds verdicts =
     timedBatch t (badBatch store counters kinds verdicts) now store verdicts
     (commitDecapsulate (t .control) store index id now counters kinds verdicts)
@@ -148,9 +144,3 @@ callDeadline t = timeless t false (outcome (t .control) (Deadline (pollTimeout (
 -- the missing report
 unfoldable pub callMissing : Tunnel → List ℕ → ℕ → Answered
 callMissing t store index = timeless t (lacking store) (missingReport (t .control) store index)
-
--- what a batch hands back is what its definition says
-pub record LeavesBatch (call : CalledBatch) (answer : Answered) (store verdicts : List ℕ) : Type 0 where
-  pub out : answer ≡ call .answered
-  pub words : store ≡ call .store
-  pub list : verdicts ≡ call .verdicts

@@ -1,7 +1,7 @@
 // What the calls make of their arguments, and which arguments number 2 turns down.
+use crate::timers::Interval;
+use crate::timers::MAX_JITTER;
 use crate::tunnel::TIME_LIMIT;
-use parts::timers::Interval;
-use parts::timers::MAX_JITTER;
 use sessions::batch::fits;
 ghost use mathlib.Core.Path.{_≡_};
 ghost use Rattle.tunnel.specs.Arguments.{intervalOf, openingOutcome, initiationOutcome, lacking, badOutcome, badJitter, badBatch, creationNumber};

@@ -1,11 +1,21 @@
 // What is proved of the definitions beyond the calls' own contracts: one empty function for each law.
-ghost use mathlib.Core.Path.{_≡_};
 ghost use mathlib.Core.List.{List};
-ghost use Prim.Native.Nat.{ℕ};
+ghost use Prim.Native.Nat.{ℕ, _≤_};
+ghost use mathlib.Core.Bool.{Bool};
+ghost use Rattle.tunnel.specs.Laws.{GateLaw, SettingLaw, ResponseLaw};
+ghost use Rattle.tunnel.specs.declared.handshake.Handshake.{Handshake};
+ghost use Rattle.tunnel.specs.Quiet.{QuietLaw};
+ghost use Rattle.tunnel.specs.declared.control.Control.{Control};
+ghost use mathlib.Core.Path.{_≡_};
 ghost use lib.ListN.{length};
 ghost use Rattle.tunnel.specs.Deadline.{DeadlineLaw};
 ghost use Rattle.tunnel.specs.Sound.{Sound, SoundLaw, StoreLaw, CreatedLaw};
 ghost use Rattle.tunnel.specs.declared.tunnel.Tunnel.{Tunnel};
+
+// A waking that comes early leaves the control and the store as they were.
+pub fn quiet_law()
+    ensures { λ r. ⌜ ((c : Control) (store : List ℕ) (jitter now : ℕ) → QuietLaw c store jitter now) ⌝ }
+{}
 
 // Every call that is handed a sound tunnel hands back a sound one, turned down or not.
 pub fn sound_law()
@@ -25,4 +35,19 @@ pub fn created_law()
 // The deadline is that of the control and the last update, whatever the greatest time is.
 pub fn deadline_law()
     ensures { λ r. ⌜ ((t : Tunnel) → DeadlineLaw t) ⌝ }
+{}
+
+// What the checks of a call at a time let through.
+pub fn gate_law()
+    ensures { λ r. ⌜ ((t : Tunnel) (bad : Bool) (now : ℕ) → GateLaw t bad now) ⌝ }
+{}
+
+// No call changes the persistent keepalive's setting.
+pub fn setting_law()
+    ensures { λ r. ⌜ ((t : Tunnel) (store : List ℕ) → SettingLaw t store) ⌝ }
+{}
+
+// A response that opened makes its session the current one and is answered with that session's first counter.
+pub fn response_law()
+    ensures { λ r. ⌜ ((t : Tunnel) → Sound t → (handshake : Handshake) (store : List ℕ) (receiver peer now : ℕ) → t .greatest ≤ now → length store ≡ 1024 → ResponseLaw (t .control) handshake store receiver peer now) ⌝ }
 {}

@@ -1,5 +1,6 @@
 // The calls. Each hands the tunnel back with its answer; one that is turned down answers `No` with its number. The checks come in
 // the order 1, 2, 14, 13; then follows what the Rust itself tests.
+use crate::answer::Answer;
 use crate::arguments::bad_batch;
 use crate::arguments::bad_jitter;
 use crate::arguments::bad_outcome;
@@ -8,21 +9,21 @@ use crate::arguments::initiation_outcome;
 use crate::arguments::interval_of;
 use crate::arguments::lacks;
 use crate::arguments::opening_outcome;
-use control::answer::Answer;
-use control::control::Control;
-use control::control::Out;
-use session::store::zero;
-use waking::handle_timeout;
+use crate::control::Control;
+use crate::control::Out;
+use sessions::store::zero;
 ghost use mathlib.Core.Path.{_≡_};
 ghost use lib.Dec.{ltb};
 ghost use Rattle.base.specs.Choice.{choose};
-ghost use Rattle.session.specs.Session.{timeLimit};
-ghost use Rattle.session.specs.Store.{Leaves};
-ghost use Rattle.tunnel.specs.Tunnel.{made, refused, settled, LeavesBatch, callNew, callStart, callRestart, callSend, callReceive, callLook, callInitiation, callResponse, callCookie, callTimeout, callEvent, callDeadline, callMissing};
+ghost use Rattle.sessions.specs.Batch.{LeavesBatch};
+ghost use Rattle.sessions.specs.Session.{timeLimit};
+ghost use Rattle.sessions.specs.Store.{Leaves};
+ghost use Rattle.tunnel.specs.Tunnel.{made, refused, settled, callNew, callStart, callRestart, callSend, callReceive, callLook, callInitiation, callResponse, callCookie, callTimeout, callEvent, callDeadline, callMissing};
 
 // The greatest time that a call may have.
 pub const TIME_LIMIT: u64 = 4_000_000_000_000_000_000;
 
+// A point-to-point WireGuard connection, without keys and without the store of its windows.
 pub struct Tunnel {
     pub control: Control,
     // `TimeLastUpdate`: when the timers were last updated.
@@ -276,7 +277,7 @@ impl Tunnel {
         if number != 0 {
             return self.refused(number);
         }
-        let out = handle_timeout(self.control, store, jitter, now);
+        let out = self.control.handle_timeout(store, jitter, now);
         self.settled(now, out)
     }
 

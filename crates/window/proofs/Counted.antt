@@ -1,20 +1,19 @@
--- The set bits of a window are as many as there are committed counters among the last 8,192 below next; and the law of every window
--- grown from nothing.
+-- The set bits of a window are as many as there are committed counters among the last 8,192 below next.
 -- Assumes nothing.
 use mathlib.Core.Path.{_≡_, ap, sym, _∙_}
-use mathlib.Core.Bool.{false}
 use mathlib.Core.List.{List, [], _∷_}
 use Prim.Native.Nat.{ℕ, suc, _+_, _-_, _*_, _/_, _%_, _≤_, _<_}
 use native.Mathlib.Decide.{decLe}
 use native.Mathlib.Omega.{arith}
 use lib.ListN.{length, getD}
 use Rattle.base.specs.Bits.{bit}
+use Rattle.base.specs.Lists.{onesOf}
 use Rattle.base.specs.Sums.{sum}
 use Rattle.base.proofs.Sums.{sum-cong, sum-none, sum-split, sum-turned, ones-sum}
-use Rattle.window.specs.Window.{limit, bitAt}
-use Rattle.window.specs.History.{member, expected, judged, seen, past, amongLast, onesOf, Represents, grown, verdict, committed, WindowLaw}
+use Rattle.window.specs.Window.{bitAt}
+use Rattle.window.specs.History.{expected, seen, past, amongLast, Represents}
 use Rattle.window.proofs.Words.{Fitting}
-use Rattle.window.proofs.History.{bit-again, past-early, past-late, judged-zero, judged-only, represents-verdict, represents-grown}
+use Rattle.window.proofs.History.{bit-again, past-early, past-late}
 
 -- the bit at a place, counted from the first word on
 placed : List ℕ → ℕ → ℕ
@@ -87,25 +86,3 @@ represents-ones history words next r =
     ∙ sym (sum-turned (bitAt words) 8192 (bit-again words) next)
     ∙ sum-cong (λ k. bitAt words (next + k)) (λ k. past history (next + k)) 8192 (λ k h. r .bits (next + k) (omega arith) (omega arith))
     ∙ last-any history next (r .expects)
-
--- the law of every window grown from nothing
-pub window-law : (counters : List ℕ) → WindowLaw counters
-unfolding verdict
-window-law counters =
-    record {
-      judges = judge;
-      commits = λ c l h e. judge c ∙ judged-zero (committed counters) c l (omega (arith, r .expects)) e;
-      only = λ c z. limited c (judged-only (committed counters) c (sym (judge c) ∙ z));
-      expects = r .expects;
-      counts = represents-ones (committed counters) (grown counters .words) (grown counters .next) r;
-    }
-  where
-    r : Represents (committed counters) (grown counters .words) (grown counters .next)
-    r = represents-grown counters
-
-    judge : (c : ℕ) → verdict (grown counters) c ≡ judged (committed counters) c
-    judge c = represents-verdict (committed counters) (grown counters .words) (grown counters .next) r c
-
-    limited : (c : ℕ) → (c < limit) × (expected (committed counters) ≤ c + 8192) × (member c (committed counters) ≡ false)
-        → (c < limit) × (grown counters .next ≤ c + 8192) × (member c (committed counters) ≡ false)
-    limited c t = (t .0, omega (arith, r .expects, t .1), t .2)

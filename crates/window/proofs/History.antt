@@ -13,15 +13,12 @@ use borrow.Author.Tests.{eqb-true}
 use Rattle.base.specs.Choice.{choose}
 use Rattle.base.proofs.Bits.{bit-zero}
 use Rattle.base.proofs.Choice.{picks, yes-le, no-le, yes-eq, no-eq}
-use Rattle.base.proofs.Zeros.{zeros-at}
-use Rattle.window.specs.Window.{limit, wordOf, bitOf, bitAt, checkBit, setBit, clears, empty, advance, isInvalid, willAccept, nextAfter, wordsAfter}
-use Rattle.window.specs.History.{member, expected, judged, seen, past, Represents, fresh, given, grown, verdict, committed}
+use Rattle.base.proofs.Zeros.{zeros-at, length-zeros}
+use Rattle.base.specs.Lists.{zeros}
+use Rattle.window.specs.Window.{limit, wordOf, bitOf, bitAt, checkBit, setBit, clears, advance, isInvalid, willAccept, nextAfter, wordsAfter}
+use Rattle.window.specs.History.{member, expected, judged, commitTo, seen, past, Represents, fresh, given, grown, verdict, committed}
 use Rattle.window.proofs.Words.{length-setBit, setBit-fits, set-hit, set-miss, clears-hit, clears-miss}
 use Rattle.window.proofs.Ready.{empty-fits, valid, valid-only, advance-none, advance-near, advance-far, length-advance, advance-fits}
-
--- the history with a counter, if it is committed
-unfoldable pub committing : List ℕ → ℕ → List ℕ
-committing history counter = choose (eqb (judged history counter) 0) (counter ∷ history) history
 
 -- membership
 member-here : (c : ℕ) (history : List ℕ) → member c (c ∷ history) ≡ true
@@ -83,15 +80,15 @@ bit-again words y =
     let place : bitOf (8192 + y) ≡ bitOf y = omega arith in
     rw (word, place)
 
-bit-empty : (y : ℕ) → bitAt empty y ≡ 0
-unfolding bitAt empty
+bit-empty : (y : ℕ) → bitAt (zeros 128) y ≡ 0
+unfolding bitAt
 bit-empty y = rw (zeros-at 128 (wordOf y)) (bit-zero (bitOf y))
 
 -- the fresh window stands for no history
-pub represents-fresh : Represents [] empty 0
-unfolding empty expected
+pub represents-fresh : Represents [] (zeros 128) 0
+unfolding expected
 represents-fresh =
-    record { long = refl; fitting = empty-fits; expects = refl; bits = λ y l h. bit-empty y ∙ sym (past-early [] y (omega arith)) }
+    record { long = length-zeros 128; fitting = empty-fits; expects = refl; bits = λ y l h. bit-empty y ∙ sym (past-early [] y (omega arith)) }
 
 module _ (history words : List ℕ) (next : ℕ) (r : Represents history words next) (c : ℕ) where
   -- the bit of a counter that is not ahead says whether it is in the history
@@ -232,18 +229,18 @@ module _ (history words : List ℕ) (next : ℕ) (r : Represents history words n
   same : willAccept words next c ≡ judged history c
   same = represents-verdict history words next r c
 
-  pub represents-commit : Represents (committing history c) (wordsAfter words next c) (nextAfter words next c)
-  unfolding committing wordsAfter nextAfter choose
+  pub represents-commit : Represents (commitTo history c) (wordsAfter words next c) (nextAfter words next c)
+  unfolding commitTo wordsAfter nextAfter choose
   represents-commit = go (eqb (judged history c) 0) refl
     where
-      go : (b : Bool) → eqb (judged history c) 0 ≡ b → Represents (committing history c) (wordsAfter words next c) (nextAfter words next c)
+      go : (b : Bool) → eqb (judged history c) 0 ≡ b → Represents (commitTo history c) (wordsAfter words next c) (nextAfter words next c)
       go true e =
           rw (same, e) (joins history words next r c (omega (arith, r .expects, judged-only history c (eqb-true (judged history c) 0 e) .1)))
       go false e = rw (same, e) r
 
 -- a window grown from nothing stands for its committed counters
 pub represents-grown : (counters : List ℕ) → Represents (committed counters) (grown counters .words) (grown counters .next)
-unfolding grown fresh given committed verdict committing
+unfolding grown fresh given committed verdict commitTo
 represents-grown [] = represents-fresh
 represents-grown (c ∷ counters) =
     let r = represents-grown counters in

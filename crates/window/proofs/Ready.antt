@@ -1,29 +1,24 @@
--- The words made ready for a counter: when it is valid, what `advance` leaves in each case, how many words, and that they fit; and the same of a commit.
+-- The words made ready for a counter: when it is valid, what `advance` leaves in each case, how many words, and that they fit.
 -- Assumes nothing.
 use mathlib.Core.Path.{_≡_, refl, sym, _∙_}
 use mathlib.Core.Bool.{Bool, true, false, true≢false}
 use mathlib.Core.List.{List}
 use Prim.Native.Nat.{ℕ, _+_, _-_, _≤_, _<_}
-use native.Mathlib.Decide.{ℕ-discrete, decLe}
+use native.Mathlib.Decide.{decLe}
 use native.Mathlib.Omega.{arith}
-use lib.Dec.{eqb, ltb}
+use lib.Dec.{ltb}
 use mir.Syntax.{w64}
 use mir.Val.{Fits}
 use lib.ListN.{length}
-use borrow.Author.Tests.{eqb-true, le-ltb, ltb-false}
-use Rattle.base.specs.Choice.{choose}
-use Rattle.base.proofs.Choice.{picks, yes-le, no-le}
-use Rattle.base.proofs.Zeros.{zeros-at}
-use Rattle.window.specs.Window.{limit, clears, empty, advance, isInvalid, willAccept, wordsAfter}
-use Rattle.window.proofs.Words.{Fitting, length-setBit, length-clears, clears-fits}
+use borrow.Author.Tests.{le-ltb, ltb-false}
+use Rattle.base.proofs.Choice.{yes-le, no-le}
+use Rattle.base.proofs.Zeros.{zeros-at, length-zeros}
+use Rattle.base.specs.Lists.{zeros}
+use Rattle.window.specs.Window.{limit, clears, advance, isInvalid}
+use Rattle.window.proofs.Words.{Fitting, length-clears, clears-fits}
 
-pub empty-fits : Fitting empty
-unfolding empty
+pub empty-fits : Fitting (zeros 128)
 empty-fits j = rw (zeros-at 128 j) (omega arith)
-
-length-empty : length empty ≡ 128
-unfolding empty
-length-empty = refl
 
 -- what is invalid, by the tests of the code
 module _ (next c : ℕ) where
@@ -62,18 +57,18 @@ module _ (words : List ℕ) (next c : ℕ) where
   unfolding advance clears
   advance-none h =
       let none : c - next ≡ 0 = omega arith in
-      no-le 8192 (c - next) words empty (clears words next (c - next)) (omega arith) (rw none)
+      no-le 8192 (c - next) words (zeros 128) (clears words next (c - next)) (omega arith) (rw none)
 
   pub advance-near : c - next < 8192 → advance words next c ≡ clears words next (c - next)
   unfolding advance
   advance-near h = sym (no-le 8192 (c - next) _ _ _ h refl)
 
-  pub advance-far : 8192 ≤ c - next → advance words next c ≡ empty
+  pub advance-far : 8192 ≤ c - next → advance words next c ≡ (zeros 128)
   unfolding advance
   advance-far h = sym (yes-le 8192 (c - next) _ _ _ h refl)
 
-  -- whatever holds of the empty words and of words with a run of counters cleared holds of the words made ready
-  ready : (P : List ℕ → Type 0) → P empty → ((count : ℕ) → P (clears words next count)) → P (advance words next c)
+  -- whatever holds of zero words and of words with a run of counters cleared holds of the words made ready
+  ready : (P : List ℕ → Type 0) → P (zeros 128) → ((count : ℕ) → P (clears words next count)) → P (advance words next c)
   unfolding clears
   ready P far near = elim (decLe 8192 (c - next)) [
     | yes m ↦ rw (advance-far m) far
@@ -81,26 +76,7 @@ module _ (words : List ℕ) (next c : ℕ) where
   ]
 
   pub length-advance : length words ≡ 128 → length (advance words next c) ≡ 128
-  length-advance long = ready (λ ws. length ws ≡ 128) length-empty (λ count. length-clears words next count ∙ long)
+  length-advance long = ready (λ ws. length ws ≡ 128) (length-zeros 128) (λ count. length-clears words next count ∙ long)
 
   pub advance-fits : Fitting words → Fitting (advance words next c)
   advance-fits f = ready Fitting empty-fits (λ count. clears-fits words next count f)
-
-  -- only 128 words take a commit
-  zero-long : willAccept words next c ≡ 0 → length words ≡ 128
-  unfolding willAccept
-  zero-long z = elim (ℕ-discrete (length words) 128) [
-    | yes e ↦ e
-    | no d ↦ (let two : 2 ≡ willAccept words next c = search (picks) in absurd (omega arith))
-  ]
-
-  -- a commit keeps the number of words
-  pub length-wordsAfter : length (wordsAfter words next c) ≡ length words
-  unfolding wordsAfter choose
-  length-wordsAfter = go (eqb (willAccept words next c) 0) refl
-    where
-      go : (b : Bool) → eqb (willAccept words next c) 0 ≡ b → length (wordsAfter words next c) ≡ length words
-      go false e = rw e
-      go true e =
-          let long : length words ≡ 128 = zero-long (eqb-true (willAccept words next c) 0 e) in
-          rw e (length-setBit (advance words next c) c ∙ length-advance long ∙ sym long)

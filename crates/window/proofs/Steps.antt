@@ -11,9 +11,9 @@ use lib.Bits.{bitAnd, bitOr}
 use lib.Dec.{eqb}
 use lib.Pow.{shl-exact}
 use Rattle.base.specs.Bits.{bit}
+use Rattle.base.specs.Lists.{zeros}
 use Rattle.base.proofs.Choice.{picks, yes-le, no-le, yes-eq, no-eq}
-use Rattle.base.proofs.Zeros.{Zeroed, zero-ends}
-use Rattle.window.specs.Window.{wordOf, bitOf, bitAt, checkBit, setBit, clearBit, clears, empty, advance, isInvalid, willAccept, nextAfter, wordsAfter, markDidReceive, Marks}
+use Rattle.window.specs.Window.{wordOf, bitOf, bitAt, checkBit, setBit, clearBit, clears, advance, isInvalid, willAccept, nextAfter, wordsAfter, markDidReceive, Marks}
 use Rattle.window.proofs.Ready.{advance-none}
 use Rattle.window.proofs.Words.{Fitting, clears-add, length-clears, whole-word}
 
@@ -87,18 +87,13 @@ module _ (ws : List ℕ) (next c : ℕ) (near : c - next < 8192) where
   skipped-three edge rest one two three h l m e f g =
       skipped-one three (run-joined ws two three next rest c (omega arith) m (run-joined ws one two next edge rest h l e f) g)
 
-pub skipped-all : (ws : List ℕ) (next c : ℕ) (last : List ℕ) → 8192 ≤ c - next → last ≡ empty → last ≡ advance ws next c
+pub skipped-all : (ws : List ℕ) (next c : ℕ) (last : List ℕ) → 8192 ≤ c - next → last ≡ zeros 128 → last ≡ advance ws next c
 unfolding advance
 skipped-all ws next c last h e = yes-le 8192 (c - next) _ _ _ h e
 
 -- the whole word of a counter, where the code has worked out its place
 pub word-put : (ws : List ℕ) (from word : ℕ) → length ws ≡ 128 → from % 64 ≡ 0 → word ≡ wordOf from → Fitting ws → set ws word 0 ≡ clears ws from 64
 word-put ws from word long edge w f = rw w (whole-word ws from long edge f)
-
--- all 128 words zeroed
-pub all-cleared : (ws now : List ℕ) (k : ℕ) → Zeroed ws now 128 k → length now ≤ k → now ≡ empty
-unfolding empty
-all-cleared ws now k z h = zero-ends ws 128 now k z (omega (arith, z .long))
 
 -- a verdict other than 0 changes nothing; a verdict of 0 sets the counter's bit and may move `next`
 module _ (ws : List ℕ) (next c : ℕ) where

@@ -3,12 +3,12 @@ use mathlib.Core.Path.{_≡_}
 use mathlib.Core.Bool.{Bool, true, false}
 use mathlib.Core.List.{List, [], _∷_}
 use Prim.Native.Nat.{ℕ, _+_, _-_, _≤_, _<_, _^_, min, max}
-use lib.Count.{ones}
 use lib.Dec.{leb, eqb}
 use lib.ListN.{length, getD}
 use Rattle.base.specs.Choice.{choose}
+use Rattle.base.specs.Lists.{zeros, onesOf}
 use Rattle.base.specs.Sums.{sum}
-use Rattle.window.specs.Window.{limit, bitAt, empty, isInvalid, willAccept, nextAfter, wordsAfter}
+use Rattle.window.specs.Window.{limit, bitAt, isInvalid, willAccept, nextAfter, wordsAfter}
 
 -- whether a counter is in a history
 unfoldable pub member : ℕ → List ℕ → Bool
@@ -25,6 +25,10 @@ unfoldable pub judged : List ℕ → ℕ → ℕ
 judged history counter =
     choose (isInvalid (expected history) counter) 9 (choose (member counter history) 10 0)
 
+-- the history with a counter, if it is committed
+unfoldable pub commitTo : List ℕ → ℕ → List ℕ
+commitTo history counter = choose (eqb (judged history counter) 0) (counter ∷ history) history
+
 -- 1 where a counter is in the history, else 0
 unfoldable pub seen : List ℕ → ℕ → ℕ
 seen history counter = choose (member counter history) 1 0
@@ -32,11 +36,6 @@ seen history counter = choose (member counter history) 1 0
 -- how many of the last 8,192 counters below the next expected one, or of all where there are fewer, are in the history
 unfoldable pub amongLast : List ℕ → ℕ
 amongLast history = sum (λ k. seen history (expected history - 8192 + k)) (min (expected history) 8192)
-
--- the number of ones in the words
-unfoldable pub onesOf : List ℕ → ℕ
-onesOf [] = 0
-onesOf (w ∷ words) = ones w + onesOf words
 
 -- the bit that a place of the bitmap has for a counter that is yet to come: whether the counter 8,192 before it is in the history
 unfoldable pub past : List ℕ → ℕ → ℕ
@@ -49,6 +48,20 @@ pub record Represents (history words : List ℕ) (next : ℕ) : Type 0 where
   pub expects : next ≡ expected history
   pub bits : (y : ℕ) → next ≤ y → y < next + 8192 → bitAt words y ≡ past history y
 
+-- the verdict that a history calls for is 0 exactly for a counter below LIMIT, at most 8,192 behind the next expected one and not in the history
+pub record JudgedLaw (history : List ℕ) (counter : ℕ) : Type 0 where
+  pub commits : counter < limit → expected history ≤ counter + 8192 → member counter history ≡ false → judged history counter ≡ 0
+  pub only : judged history counter ≡ 0 → (counter < limit) × (expected history ≤ counter + 8192) × (member counter history ≡ false)
+
+-- What words and a next expected counter that stand for a history do:
+pub record StandingLaw (history words : List ℕ) (next : ℕ) : Type 0 where
+  -- the verdict on a counter is the one that the history calls for
+  pub judges : (counter : ℕ) → willAccept words next counter ≡ judged history counter
+  -- after a commit they stand for the history with the counter, and after a refusal for the history as it was
+  pub stands : (counter : ℕ) → Represents (commitTo history counter) (wordsAfter words next counter) (nextAfter words next counter)
+  -- the set bits are as many as there are counters of the history among the last 8,192 below next
+  pub counts : onesOf words ≡ amongLast history
+
 -- a window: its words and its next expected counter
 pub record Window : Type 0 where
   pub words : List ℕ
@@ -56,7 +69,7 @@ pub record Window : Type 0 where
 
 -- the fresh window
 unfoldable pub fresh : Window
-fresh = record { words = empty; next = 0 }
+fresh = record { words = zeros 128; next = 0 }
 
 -- the verdict of a window on a counter
 unfoldable pub verdict : Window → ℕ → ℕ

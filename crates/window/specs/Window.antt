@@ -3,11 +3,12 @@ use mathlib.Core.Path.{_≡_}
 use mathlib.Core.Bool.{Bool, true}
 use mathlib.Core.List.{List}
 use Prim.Native.Nat.{ℕ, zero, suc, _+_, _-_, _/_, _%_, _^_, _≤_, max}
-use lib.ListN.{length, getD, set, replicate}
+use lib.ListN.{length, getD, set}
 use lib.Bits.{bitAnd, bitOr}
 use lib.Dec.{ltb, leb, eqb}
 use Rattle.base.specs.Bits.{bit}
 use Rattle.base.specs.Choice.{choose}
+use Rattle.base.specs.Lists.{zeros}
 use Rattle.window.specs.declared.Marked.{Marked}
 
 -- LIMIT, the Rust's REJECT_AFTER_MESSAGES
@@ -43,13 +44,9 @@ unfoldable pub clears : List ℕ → ℕ → ℕ → List ℕ
 clears words from zero = words
 clears words from (suc count) = clearBit (clears words from count) (from + count)
 
--- 128 zero words
-unfoldable pub empty : List ℕ
-empty = replicate 128 0
-
 -- the words made ready for a counter: an advance by 8,192 or more clears them whole, a smaller one the bit of each skipped counter
 unfoldable pub advance : List ℕ → ℕ → ℕ → List ℕ
-advance words next counter = choose (leb 8192 (counter - next)) empty (clears words next (counter - next))
+advance words next counter = choose (leb 8192 (counter - next)) (zeros 128) (clears words next (counter - next))
 
 -- whether a counter is at or above LIMIT, or more than 8,192 behind `next`
 unfoldable pub isInvalid : ℕ → ℕ → Bool

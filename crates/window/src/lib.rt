@@ -1,19 +1,23 @@
 // The anti-replay window: a sliding bitmap over 128 lent words that refuses replays and takes messages out of order.
 // The caller keeps `next`, one past the highest committed counter.
 ghost use mathlib.Core.Path.{_≡_};
-ghost use mathlib.Core.List.{List};
+ghost use mathlib.Core.List.{List, []};
 ghost use Prim.Native.Nat.{ℕ, _-_, _≤_, _<_, _%_};
 ghost use lib.ListN.{length};
-ghost use Rattle.window.specs.History.{WindowLaw};
-ghost use Rattle.window.specs.Window.{wordOf, bitOf, setBit, clearBit, checkBit, clears, empty, advance, isInvalid, willAccept, Marks, ClearedWords};
+ghost use Rattle.base.specs.Lists.{zeros};
+ghost use Rattle.window.specs.History.{Represents, JudgedLaw, StandingLaw, WindowLaw};
+ghost use Rattle.window.specs.Window.{wordOf, bitOf, setBit, clearBit, checkBit, clears, advance, isInvalid, willAccept, Marks, ClearedWords};
 
 // The exclusive limit of counters, which leaves room for the window's arithmetic.
 pub const REJECT_AFTER_MESSAGES: u64 = 18446744073709543423;
 
+// The bits of a word.
 const WORD_SIZE: u64 = 64;
 
+// The words of a window.
 const N_WORDS: usize = 128;
 
+// The counters that a window spans.
 const N_BITS: u64 = 8192;
 
 // What committing a counter answers: its verdict (0, 9 or 10; 2 where the words are not 128) and the next expected counter.
@@ -111,7 +115,7 @@ fn word_edge(from: u64) -> u64
 // Clears every word.
 fn clear_all(words: &mut [u64])
     requires { ⌜ length (now words) ≡ 128 ⌝ }
-    ensures { λ r. ⌜ now (words .exit) ≡ empty ⌝ }
+    ensures { λ r. ⌜ now (words .exit) ≡ zeros 128 ⌝ }
 {
     let mut k = 0;
     while k < words.len() {
@@ -203,4 +207,19 @@ pub fn mark_did_receive(words: &mut [u64], next: u64, counter: u64) -> Marked
 // What holds of every window grown from zero words and next 0 by any list of counters.
 pub fn window_law()
     ensures { λ r. ⌜ ((counters : List ℕ) → WindowLaw counters) ⌝ }
+{}
+
+// Zero words and next 0 stand for the empty history.
+pub fn fresh_law()
+    ensures { λ r. ⌜ Represents [] (zeros 128) 0 ⌝ }
+{}
+
+// What words and a next expected counter that stand for a history do.
+pub fn standing_law()
+    ensures { λ r. ⌜ ((history words : List ℕ) (next : ℕ) → Represents history words next → StandingLaw history words next) ⌝ }
+{}
+
+// Which counters a history calls for a verdict of 0 on.
+pub fn judged_law()
+    ensures { λ r. ⌜ ((history : List ℕ) (counter : ℕ) → JudgedLaw history counter) ⌝ }
 {}

@@ -1,6 +1,5 @@
 use Prim.Native.Nat.{_-_}
-use Rattle.base.proofs.Zeros.{Zeroed, zero-begins, zero-more}
-use Rattle.window.proofs.Steps.{all-cleared}
+use Rattle.base.proofs.Zeros.{Zeroed, zero-begins, zero-more, zero-ends}
 use borrow.Author.Needs.{needs}
 use Rattle.window.proofs.clear_all.Statement.{statement}
 use Rattle.window.proofs.clear_all.Tie as tie
@@ -33,7 +32,7 @@ same-length : tie.Need-same-length Inv-loop μ-loop
 same-length c = search needs
 
 returns : tie.Need-returns Inv-loop μ-loop
-returns c = search (all-cleared, needs)
+returns c = search (zero-ends, needs)
 
 pub clear-all-spec : {M : Type 1} → statement M
 clear-all-spec =

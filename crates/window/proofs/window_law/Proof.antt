@@ -1,4 +1,4 @@
-use Rattle.window.proofs.Counted.{window-law}
+use Rattle.window.proofs.Laws.{window-law}
 use Rattle.window.proofs.window_law.Statement.{statement}
 use Rattle.window.proofs.window_law.Tie as tie
 

@@ -1,4 +1,4 @@
-use Rattle.sessions.proofs.Indices.{next-index-law}
+use Rattle.sessions.proofs.Laws.{next-index-law}
 use Rattle.sessions.proofs.claims.next_index_law.Statement.{statement}
 use Rattle.sessions.proofs.claims.next_index_law.Tie as tie
 

@@ -1,4 +1,4 @@
-use Rattle.sessions.proofs.Received.{slots-apart}
+use Rattle.sessions.proofs.Laws.{slots-apart}
 use Rattle.sessions.proofs.claims.slots_apart.Statement.{statement}
 use Rattle.sessions.proofs.claims.slots_apart.Tie as tie
 

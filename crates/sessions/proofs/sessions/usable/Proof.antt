@@ -1,4 +1,4 @@
-use Rattle.session.proofs.Cases.{cases}
+use Rattle.sessions.specs.Cases.{cases}
 use Rattle.base.proofs.Choice.{picks}
 use Rattle.sessions.specs.Sessions.{usable}
 use borrow.Author.Needs.{needs}

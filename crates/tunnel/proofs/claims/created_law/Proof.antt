@@ -1,4 +1,4 @@
-use Rattle.tunnel.proofs.SoundCalls.{created-law}
+use Rattle.tunnel.proofs.Laws.{created-law}
 use Rattle.tunnel.proofs.claims.created_law.Statement.{statement}
 use Rattle.tunnel.proofs.claims.created_law.Tie as tie
 

@@ -1,4 +1,4 @@
-use Rattle.tunnel.proofs.Deadline.{deadline-law}
+use Rattle.tunnel.proofs.Laws.{deadline-law}
 use Rattle.tunnel.proofs.claims.deadline_law.Statement.{statement}
 use Rattle.tunnel.proofs.claims.deadline_law.Tie as tie
 

@@ -1,4 +1,4 @@
-use Rattle.tunnel.proofs.SoundCalls.{sound-law}
+use Rattle.tunnel.proofs.Laws.{sound-law}
 use Rattle.tunnel.proofs.claims.sound_law.Statement.{statement}
 use Rattle.tunnel.proofs.claims.sound_law.Tie as tie
 

@@ -1,4 +1,4 @@
-use Rattle.tunnel.proofs.Stores.{store-law}
+use Rattle.tunnel.proofs.Laws.{store-law}
 use Rattle.tunnel.proofs.claims.store_law.Statement.{statement}
 use Rattle.tunnel.proofs.claims.store_law.Tie as tie
 

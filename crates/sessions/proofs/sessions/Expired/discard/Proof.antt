@@ -1,4 +1,4 @@
-use Rattle.session.specs.Session.{emptySession, newSession}
+use Rattle.sessions.specs.Session.{emptySession, newSession}
 use Rattle.sessions.proofs.Ways.{discarded-current, discarded-other}
 use borrow.Author.Needs.{needs}
 use Rattle.sessions.proofs.sessions.Expired.discard.Statement.{statement}

@@ -1,4 +1,4 @@
-use Rattle.session.specs.Session.{emptySession, newSession}
+use Rattle.sessions.specs.Session.{emptySession, newSession}
 use Rattle.base.proofs.Choice.{picks}
 use Rattle.sessions.specs.Sessions.{expiredSlot}
 use borrow.Author.Needs.{needs}

@@ -1,6 +1,6 @@
 use borrow.Author.Needs.{needs}
 use Prim.Native.Nat.{_-_}
-use Rattle.session.specs.Session.{emptySession, newSession}
+use Rattle.sessions.specs.Session.{emptySession, newSession}
 use Rattle.sessions.specs.Sessions.{slotAt}
 use Rattle.base.proofs.First.{NoneYet, none-begins, none-more, one-found, none-found}
 use Rattle.sessions.proofs.sessions.Sessions.is_empty.Statement.{statement}

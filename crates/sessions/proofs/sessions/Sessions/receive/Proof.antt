@@ -1,10 +1,8 @@
-use Rattle.sessions.proofs.Batches.{a-batch, fits-ready, no-batch, wrong-store}
+use Rattle.sessions.proofs.Batches.{fits-long, no-batch, none-receives, one-receives, wrong-store}
 use borrow.Author.Needs.{needs}
+use borrow.Author.Tests.{not-true, not-false}
 use Rattle.sessions.proofs.sessions.Sessions.receive.Statement.{statement}
 use Rattle.sessions.proofs.sessions.Sessions.receive.Tie as tie
-
-refused-requires : tie.Need-refused-requires
-refused-requires c κs = search needs
 
 returns : tie.Need-returns
 returns c = search (wrong-store, needs)
@@ -12,38 +10,82 @@ returns c = search (wrong-store, needs)
 fits-requires : tie.Need-fits-requires
 fits-requires c κs = search needs
 
-commit-requires : tie.Need-commit-requires
-commit-requires c κs = search (fits-ready, needs)
-
 same-length : tie.Need-same-length
 same-length c = search needs
+
+returns-2 : tie.Need-returns-2
+returns-2 c = search (no-batch, not-true, needs)
+
+receiving-session-requires : tie.Need-receiving-session-requires
+receiving-session-requires c κs = search needs
+
+enum-known-session : tie.Need-enum-known-session
+enum-known-session c = search needs
+
+enum-told : tie.Need-enum-told
+enum-told c = search needs
 
 same-length-2 : tie.Need-same-length-2
 same-length-2 c = search needs
 
-returns-2 : tie.Need-returns-2
-returns-2 c = search (a-batch, needs)
+returns-3 : tie.Need-returns-3
+returns-3 c = search (none-receives, not-false, needs)
 
-refused-requires-2 : tie.Need-refused-requires-2
-refused-requires-2 c κs = search needs
+cast-start : tie.Need-cast-start
+cast-start c = search needs
+
+mul-start : tie.Need-mul-start
+mul-start c = search needs
+
+add-end : tie.Need-add-end
+add-end c = search needs
+
+mul-finish-all : tie.Need-mul-finish-all
+mul-finish-all c = search needs
+
+sub-finish-all : tie.Need-sub-finish-all
+sub-finish-all c = search needs
+
+part-finish-all-start : tie.Need-part-finish-all-start
+part-finish-all-start c = search needs
+
+part-finish-all-end : tie.Need-part-finish-all-end
+part-finish-all-end c = search needs
+
+finish-all-requires : tie.Need-finish-all-requires
+finish-all-requires c κs =
+    fits-long _ _ _ _ (c .before .before .before .before .before .before .before .before .fits2 .ensures) (not-false _ (c .before .before .before .before .before .before .before .if2 .left))
 
 same-length-3 : tie.Need-same-length-3
 same-length-3 c = search needs
 
-returns-3 : tie.Need-returns-3
-returns-3 c = search (no-batch, needs)
+same-length-4 : tie.Need-same-length-4
+same-length-4 c = search needs
+
+returns-4 : tie.Need-returns-4
+returns-4 c = search (one-receives, not-false, needs)
 
 pub receive-spec : {M : Type 1} → statement M
 receive-spec =
     tie.close
     (tie.spec
-    refused-requires
     returns
     fits-requires
-    commit-requires
     same-length
-    same-length-2
     returns-2
-    refused-requires-2
+    receiving-session-requires
+    enum-known-session
+    enum-told
+    same-length-2
+    returns-3
+    cast-start
+    mul-start
+    add-end
+    mul-finish-all
+    sub-finish-all
+    part-finish-all-start
+    part-finish-all-end
+    finish-all-requires
     same-length-3
-    returns-3)
+    same-length-4
+    returns-4)

@@ -1,5 +1,5 @@
 use Rattle.sessions.proofs.Loops.{slot-within}
-use Rattle.session.specs.Session.{emptySession, newSession}
+use Rattle.sessions.specs.Session.{emptySession, newSession}
 use Rattle.base.proofs.Choice.{picks}
 use Rattle.sessions.specs.Sessions.{slotExpiry}
 use borrow.Author.Needs.{needs}

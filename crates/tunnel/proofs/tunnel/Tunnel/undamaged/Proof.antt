@@ -1,4 +1,4 @@
-use Rattle.tunnel.specs.Check.{undamaged}
+use Rattle.tunnel.specs.Damage.{undamaged}
 use Rattle.base.proofs.Choice.{picks}
 use borrow.Author.Needs.{needs}
 use Rattle.tunnel.proofs.tunnel.Tunnel.undamaged.Statement.{statement}

@@ -1,4 +1,0 @@
-pub mod Cases
-pub mod Loops
-pub mod Queue
-pub mod Ways

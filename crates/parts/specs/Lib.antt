@@ -1,5 +1,0 @@
-pub mod Check
-pub mod Event
-pub mod Handshake
-pub mod RingBuffer
-pub mod Timers

@@ -1,0 +1,100 @@
+-- The theorems of the laws that src/claims.rt ties: what another crate may cite of the sessions' proofs.
+-- Assumes nothing.
+use mathlib.Core.Path.{_≡_, refl, ap, _∙_}
+use mathlib.Core.List.{List}
+use Prim.Native.Nat.{ℕ, _+_, _≤_, _<_}
+use native.Mathlib.Omega.{arith}
+use lib.ListN.{length, getD}
+use Rattle.base.specs.Lists.{zeros}
+use Rattle.base.proofs.Counting.{upFrom-at}
+use Rattle.base.proofs.Zeros.{length-zeros}
+use Rattle.window.specs.Window.{limit}
+use Rattle.sessions.specs.Batch.{fits}
+use Rattle.sessions.specs.Laws.{SlotsApart, NextIndexLaw, LookupLaw, SlotLaw, WholeLaw, ExpiryLaw, FitsLaw, NextLaw}
+use Rattle.sessions.specs.declared.batch.Progress.{Progress}
+use Rattle.sessions.specs.Reservations.{granted, ReservationLaw}
+use Rattle.sessions.specs.Sessions.{slotAt, inCurrentSlot}
+use Rattle.sessions.specs.declared.session.Session.{Session}
+use Rattle.sessions.specs.declared.sessions.Sessions.{Sessions}
+use Rattle.sessions.proofs.Apart.{kept-insert, kept-expire}
+use Rattle.sessions.proofs.Indices.{first, takes-first, takes-second, other-slot, same-upper, goes-on-from}
+use Rattle.sessions.proofs.Lookups.{vacant-slot, slotted-in, got-slot, current-slot, sending-current, received-slot}
+use Rattle.sessions.proofs.Loops.{expire-none}
+use Rattle.sessions.proofs.Received.{batch-within, kept-receive}
+use Rattle.sessions.proofs.Reservations.{Counts, counts-all}
+use Rattle.sessions.proofs.Wholes.{insert-whole, clear-whole, expire-whole, receive-whole}
+use Rattle.sessions.proofs.Words.{length-put, slot-same, slot-other}
+use Rattle.sessions.proofs.Batches.{fits-long}
+
+-- the counters that a session grants
+pub reservation-law : (s : Session) (lens : List ℕ) → s .«sending_key_counter» ≡ 0 → ReservationLaw s lens
+reservation-law s lens z =
+    let all : Counts s (granted s lens) = counts-all s lens in
+    record {
+      counts = λ k h.
+          ap (λ (l : List ℕ). getD l k 0) (all .counts) ∙ upFrom-at (s .«sending_key_counter») (length (granted s lens)) k h ∙ omega arith;
+      below = λ k h. (let most : s .«sending_key_counter» + length (granted s lens) ≤ limit = all .below (omega arith) in omega arith);
+    }
+
+-- the slots that a call does not name
+pub slots-apart : (s : Sessions) (store : List ℕ) (slot : ℕ) → SlotsApart s store slot
+slots-apart s store slot =
+    record {
+      batch = λ index id now counters kinds verdicts d. kept-receive s store slot index d counters kinds id now verdicts;
+      insertion = λ x d. kept-insert s store slot x d;
+      expiry = λ now e. kept-expire s store slot now e;
+    }
+
+-- the index allocated next
+pub next-index-law : (s : Sessions) → NextIndexLaw s
+next-index-law s =
+    record {
+      apart = λ x c. other-slot s x c (inCurrentSlot s (first s)) refl;
+      one = takes-first s;
+      two = takes-second s;
+      upper = same-upper s (inCurrentSlot s (first s)) refl;
+      goes-on = goes-on-from s;
+    }
+
+-- what the lookups find
+pub lookup-law : (s : Sessions) → LookupLaw s
+lookup-law s =
+    record {
+      vacant = λ slot. vacant-slot (slotAt s slot);
+      slotted = slotted-in s;
+      found = got-slot s;
+      current = current-slot s;
+      sending = sending-current s;
+      receiving = received-slot s;
+    }
+
+-- words put into a slot
+pub slot-law : (store words : List ℕ) (slot : ℕ) → length store ≡ 1024 → slot < 8 → SlotLaw store words slot
+slot-law store words slot l low =
+    record { whole = length-put store words slot l low; same = slot-same store words slot l low; other = slot-other store words slot l low }
+
+-- how many words are left
+pub whole-law : (s : Sessions) (store : List ℕ) → length store ≡ 1024 → WholeLaw s store
+whole-law s store l =
+    record {
+      insertion = λ x. insert-whole s store x l;
+      clearing = clear-whole s store l;
+      expiry = λ now. expire-whole s store now l;
+      batch = λ index id now counters kinds verdicts. receive-whole s store index id now counters kinds verdicts l;
+    }
+
+-- an expiry that finds none
+pub expiry-law : (s : Sessions) (store : List ℕ) (now : ℕ) → ExpiryLaw s store now
+expiry-law s store now = record { none = expire-none s now store }
+
+-- lists that make a batch
+pub fits-law : (counters kinds verdicts : List ℕ) → FitsLaw counters kinds verdicts
+fits-law counters kinds verdicts =
+    record {
+      kinds-long = λ e. fits-long counters kinds verdicts (fits counters kinds verdicts) refl e .0;
+      verdicts-long = λ e. fits-long counters kinds verdicts (fits counters kinds verdicts) refl e .1;
+    }
+
+-- the window's next after the messages of a batch
+pub next-law : (words : List ℕ) (p : Progress) (counters kinds : List ℕ) → NextLaw words p counters kinds
+next-law words p counters kinds = record { within = batch-within words p counters kinds }

@@ -1,0 +1,57 @@
+// The store of the windows' words, which the caller lends: 1,024 words, of which slot k has the 128 from 128 * k on.
+ghost use mathlib.Core.Path.{_≡_};
+ghost use Prim.Native.Nat.{_<_, _≤_};
+ghost use lib.Count.{ones};
+ghost use lib.ListN.{length};
+ghost use Rattle.sessions.specs.Store.{putSlot, Counted, missingOf};
+ghost use Rattle.base.specs.Lists.{zeros};
+
+// Zeroes every word.
+pub fn zero(words: &mut [u64])
+    ensures { λ r. ⌜ now (words .exit) ≡ zeros (length (now (words .entry))) ⌝ }
+{
+    let mut i = 0;
+    while i < words.len() {
+        words[i] = 0;
+        i = i + 1;
+    }
+}
+
+// Zeroes the words of a slot.
+pub(crate) fn zero_slot(store: &mut [u64], slot: usize)
+    requires { ⌜ (length (now store) ≡ 1024) × (slot < 8) ⌝ }
+    ensures { λ r. ⌜ now (store .exit) ≡ putSlot (now (store .entry)) slot (zeros 128) ⌝ }
+{
+    let start = 128 * slot;
+    let end = start + 128;
+    zero(&mut store[start..end]);
+}
+
+// The number of ones in a word.
+fn ones_of(word: u64) -> u64
+    ensures { λ r. ⌜ (r ≡ ones word) × (r ≤ 64) ⌝ }
+{
+    u64::count_ones(word) as u64
+}
+
+// The number of ones in at most 128 words.
+fn count_ones(words: &[u64]) -> u64
+    requires { ⌜ length (now words) ≤ 128 ⌝ }
+    ensures { λ r. ⌜ Counted (now (words .entry)) r ⌝ }
+{
+    let mut ones = 0;
+    let mut i = 0;
+    while i < words.len() {
+        ones = ones + ones_of(words[i]);
+        i = i + 1;
+    }
+    ones
+}
+
+// The number of a window's counters that are not committed: 8,192 less the ones of its words.
+pub(crate) fn missing_of(words: &[u64]) -> u64
+    requires { ⌜ length (now words) ≤ 128 ⌝ }
+    ensures { λ r. ⌜ r ≡ missingOf (now (words .entry)) ⌝ }
+{
+    8192 - count_ones(words)
+}

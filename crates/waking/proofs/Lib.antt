@@ -1,5 +1,0 @@
-pub mod Quiet
-pub mod SoundWaking
-pub mod Stores
-pub mod Wakings
-pub mod Woken
