@@ -8,7 +8,8 @@ use native.Mathlib.Nat.{add-zero}
 use native.Mathlib.Omega.{arith}
 use lib.ListN.{getD-replicate, length-replicate}
 use Rattle.base.specs.Choice.{choose}
-use Rattle.demands.proofs.Held.{not-empty, Held}
+use Rattle.sessions.proofs.Laws.{empty-law}
+use Rattle.demands.proofs.Held.{Held}
 use Rattle.tunnel.specs.Control.{newControl}
 use Rattle.tunnel.specs.declared.answer.Answer.the-variants.{No, Done}
 use Rattle.demands.proofs.Grown.{sound-step, sound-created}
@@ -72,8 +73,8 @@ held-new index =
       eight = length-replicate 8 emptySession;
       size = length-zeros 1024;
       count = refl;
-      slots = λ k low f. absurd (not-empty _ (getD-replicate 8 k emptySession emptySession low) f);
-      apart = λ j k a b e f q. absurd (not-empty _ (getD-replicate 8 j emptySession emptySession a) e);
+      slots = λ k low f. absurd (empty-law .unfilled _ (getD-replicate 8 k emptySession emptySession low) f);
+      apart = λ j k a b e f q. absurd (empty-law .unfilled _ (getD-replicate 8 j emptySession emptySession a) e);
       unborn = λ id l. refl;
       ungranted = λ id l. no-counters id;
       runs = λ id. record { count = 0; are = no-counters id ∙ none-granted; below = omega arith };

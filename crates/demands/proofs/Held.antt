@@ -2,7 +2,7 @@
 -- told apart by id.
 -- Assumes nothing.
 use mathlib.Core.Path.{_≡_, refl, ap, sym, _∙_}
-use mathlib.Core.Bool.{true, true≢false}
+use mathlib.Core.Bool.{true}
 use mathlib.Core.List.{List, [], _∷_, _++_, append-assoc, append-nil}
 use Prim.Native.Nat.{ℕ, _+_, _≤_, _<_}
 use native.Mathlib.Decide.{ℕ-discrete}
@@ -20,12 +20,6 @@ use Rattle.sessions.specs.declared.session.Session.{Session}
 use Rattle.sessions.specs.declared.sessions.Sessions.{Sessions}
 use Rattle.window.specs.History.{Represents}
 use Rattle.window.specs.Window.{limit}
-use Rattle.sessions.specs.Session.{emptySession}
-
--- a filled slot is not an empty one
-pub not-empty : (x : Session) → x ≡ emptySession → x .filled ≡ true → ⊥
-unfolding emptySession
-not-empty x e f = true≢false (sym f ∙ rw e)
 
 -- the counters of grants, and of those that follow
 pub counters-on : (id : ℕ) (g h : List Grant) → countersOf id (g ++ h) ≡ countersOf id g ++ countersOf id h

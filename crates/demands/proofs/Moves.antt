@@ -9,24 +9,20 @@ use native.Mathlib.Omega.{arith}
 use lib.Dec.{eqb}
 use lib.ListN.{length, getD, set, length-set, getD-replicate, length-replicate}
 use lib.Seq.{getD-set-same, getD-set-other}
-use borrow.Author.Tests.{eqb-true}
 use Rattle.base.specs.Choice.{choose}
 use Rattle.base.proofs.Choice.{of-choice}
 use Rattle.sessions.specs.Cases.{of-found, caseFound, caseSelected}
-use Rattle.demands.proofs.Held.{not-empty, Carried, carried-same, carried-on, Changed}
+use Rattle.demands.proofs.Held.{Carried, carried-same, carried-on, Changed}
 use Rattle.base.proofs.Zeros.{length-zeros}
-use Rattle.sessions.proofs.Laws.{slot-law}
-use Rattle.sessions.specs.Batch.{receivingSession}
+use Rattle.sessions.proofs.Laws.{slot-law, empty-law}
 use Rattle.sessions.specs.Index.{slotOf}
-use Rattle.sessions.specs.Laws.{Kept}
-use Rattle.sessions.specs.Session.{emptySession, expiredAt}
-use Rattle.sessions.specs.Sessions.{slotAt, emptySlots, Held, inSlotOf, get, put, currentOf, nextIndex, select, setCurrent, clear, emptied, Expiring, discard, expireSlot, expireFirst, expire, insert}
+use Rattle.sessions.specs.Session.{emptySession}
+use Rattle.sessions.specs.Sessions.{slotAt, emptySlots, Held, inSlotOf, get, put, currentOf, nextIndex, select, setCurrent, clear, emptied, Expiring, discard, expireSlot, expireFirst, expire}
 use Rattle.sessions.specs.Store.{putSlot}
 use Rattle.base.specs.Lists.{zeros}
 use Rattle.sessions.specs.declared.session.Session.{Session}
 use Rattle.sessions.specs.declared.sessions.Expired.{Expired}
 use Rattle.sessions.specs.declared.sessions.Found.the-variants.{Nothing, Got}
-use Rattle.sessions.specs.declared.sessions.Found.{Found}
 use Rattle.sessions.specs.declared.sessions.Selected.the-variants.{Unset, Index}
 use Rattle.sessions.specs.declared.sessions.Selected.{Selected}
 use Rattle.sessions.specs.declared.sessions.Sessions.{Sessions}
@@ -107,7 +103,7 @@ module _ (s last : Sessions) (store : List ℕ) (k : ℕ) (eight : length (s .sl
         size = slot-law store (zeros 128) k size low .whole ∙ sym size;
         count = i;
         slots = λ j high f. elim (ℕ-discrete j k) [
-          | yes q ↦ absurd (not-empty _ (ap (λ (n : ℕ). slotAt last n) q ∙ ap (λ (l : List Session). getD l k emptySession) e ∙ getD-set-same (s .slots) k emptySession emptySession (omega arith)) f)
+          | yes q ↦ absurd (empty-law .unfilled _ (ap (λ (n : ℕ). slotAt last n) q ∙ ap (λ (l : List Session). getD l k emptySession) e ∙ getD-set-same (s .slots) k emptySession emptySession (omega arith)) f)
           | no q ↦ (ap (λ (l : List Session). getD l j emptySession) e ∙ getD-set-other (s .slots) k j emptySession emptySession q, slot-law store (zeros 128) k size low .other j q)
         ];
       }
@@ -163,7 +159,7 @@ module _ (s : Sessions) (store : List ℕ) (now : ℕ) where
         eight = length-replicate 8 emptySession ∙ sym eight;
         size = length-zeros 1024 ∙ sym size;
         count = refl;
-        slots = λ k low f. absurd (not-empty _ (getD-replicate 8 k emptySession emptySession low) f);
+        slots = λ k low f. absurd (empty-law .unfilled _ (getD-replicate 8 k emptySession emptySession low) f);
       })
       refl)
       (thinned-same s store)

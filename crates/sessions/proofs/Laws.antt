@@ -1,30 +1,30 @@
 -- The theorems of the laws that src/claims.rt ties: what another crate may cite of the sessions' proofs.
 -- Assumes nothing.
-use mathlib.Core.Path.{_≡_, refl, ap, _∙_}
+use mathlib.Core.Path.{_≡_, refl, ap, _∙_, sym}
 use mathlib.Core.List.{List}
 use Prim.Native.Nat.{ℕ, _+_, _≤_, _<_}
 use native.Mathlib.Omega.{arith}
 use lib.ListN.{length, getD}
-use Rattle.base.specs.Lists.{zeros}
 use Rattle.base.proofs.Counting.{upFrom-at}
-use Rattle.base.proofs.Zeros.{length-zeros}
 use Rattle.window.specs.Window.{limit}
 use Rattle.sessions.specs.Batch.{fits}
-use Rattle.sessions.specs.Laws.{SlotsApart, NextIndexLaw, LookupLaw, SlotLaw, WholeLaw, ExpiryLaw, FitsLaw, NextLaw}
+use Rattle.sessions.specs.Laws.{SlotsApart, NextIndexLaw, EmptyLaw, LookupLaw, SlotLaw, WholeLaw, ExpiryLaw, FitsLaw, NextLaw}
 use Rattle.sessions.specs.declared.batch.Progress.{Progress}
 use Rattle.sessions.specs.Reservations.{granted, ReservationLaw}
-use Rattle.sessions.specs.Sessions.{slotAt, inCurrentSlot}
+use Rattle.sessions.specs.Sessions.{inCurrentSlot}
 use Rattle.sessions.specs.declared.session.Session.{Session}
 use Rattle.sessions.specs.declared.sessions.Sessions.{Sessions}
 use Rattle.sessions.proofs.Apart.{kept-insert, kept-expire}
 use Rattle.sessions.proofs.Indices.{first, takes-first, takes-second, other-slot, same-upper, goes-on-from}
-use Rattle.sessions.proofs.Lookups.{vacant-slot, slotted-in, got-slot, current-slot, sending-current, received-slot}
+use Rattle.sessions.proofs.Lookups.{got-slot, current-slot, sending-current, received-slot}
 use Rattle.sessions.proofs.Loops.{expire-none}
 use Rattle.sessions.proofs.Received.{batch-within, kept-receive}
 use Rattle.sessions.proofs.Reservations.{Counts, counts-all}
 use Rattle.sessions.proofs.Wholes.{insert-whole, clear-whole, expire-whole, receive-whole}
 use Rattle.sessions.proofs.Words.{length-put, slot-same, slot-other}
 use Rattle.sessions.proofs.Batches.{fits-long}
+use Rattle.sessions.specs.Session.{emptySession}
+use mathlib.Core.Bool.{true≢false}
 
 -- the counters that a session grants
 pub reservation-law : (s : Session) (lens : List ℕ) → s .«sending_key_counter» ≡ 0 → ReservationLaw s lens
@@ -56,12 +56,15 @@ next-index-law s =
       goes-on = goes-on-from s;
     }
 
+-- the record of an empty slot
+pub empty-law : EmptyLaw
+unfolding emptySession
+empty-law = record { unfilled = λ x e f. true≢false (sym f ∙ rw e) }
+
 -- what the lookups find
 pub lookup-law : (s : Sessions) → LookupLaw s
 lookup-law s =
     record {
-      vacant = λ slot. vacant-slot (slotAt s slot);
-      slotted = slotted-in s;
       found = got-slot s;
       current = current-slot s;
       sending = sending-current s;

@@ -11,7 +11,7 @@ use Rattle.sessions.specs.Cases.{caseRole, caseFound, caseSelected}
 use Rattle.sessions.specs.Batch.{receivingSession}
 use Rattle.sessions.specs.Index.{slotOf}
 use Rattle.sessions.specs.Laws.{InSlot}
-use Rattle.sessions.specs.Session.{emptySession, expiredAt, shouldUseAt, sendingCounterExhausted}
+use Rattle.sessions.specs.Session.{expiredAt, shouldUseAt, sendingCounterExhausted}
 use Rattle.sessions.specs.Sessions.{slotAt, inSlotOf, get, currentOf, usable, sendingSession}
 use Rattle.sessions.specs.declared.session.Session.{Session}
 use Rattle.sessions.specs.declared.sessions.Found.the-variants.{Nothing, Got}
@@ -103,13 +103,3 @@ of-current (Got x) now y p = ap Got (of-picked (shouldUseAt x now) (x .role) x y
 pub sending-current : (s : Sessions) (now : ℕ) (y : Session) → sendingSession s now ≡ Got y → currentOf s ≡ Got y
 unfolding sendingSession
 sending-current s now y p = of-current (currentOf s) now y p
-
--- an empty slot is not filled
-pub vacant-slot : (x : Session) → x ≡ emptySession → x .filled ≡ false
-unfolding emptySession
-vacant-slot x e = rw e
-
-pub slotted-in : (s : Sessions) (index : ℕ) (x : Session) → inSlotOf s index ≡ Got x
-    → (slotAt s (slotOf index) .filled ≡ true) × (slotAt s (slotOf index) ≡ x)
-unfolding inSlotOf
-slotted-in s index x e = chosen s _ _ _ e

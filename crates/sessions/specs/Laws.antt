@@ -9,7 +9,7 @@ use Rattle.sessions.specs.declared.sessions.Found.the-variants.{Nothing,
 use Rattle.sessions.specs.declared.sessions.Sessions.{Sessions}
 use Rattle.sessions.specs.Index.{slotOf, wrappingIncrement}
 use Rattle.sessions.specs.Store.{slotWords, putSlot}
-use Rattle.sessions.specs.Sessions.{slotAt, inSlotOf, get, currentOf, sendingSession, inCurrentSlot, nextIndex, insert, clear, expiredSlot, noneExpired, expiring, expire, put}
+use Rattle.sessions.specs.Sessions.{slotAt, get, currentOf, sendingSession, inCurrentSlot, nextIndex, insert, clear, expiredSlot, noneExpired, expiring, expire, put}
 use Rattle.sessions.specs.Batch.{fits, finishAll, receivingSession, receive}
 use Rattle.window.specs.Window.{limit}
 use Rattle.sessions.specs.declared.batch.Progress.{Progress}
@@ -51,12 +51,12 @@ pub record InSlot (s : Sessions) (index : ℕ) (x : Session) : Type 0 where
   pub filled : x .filled ≡ true
   pub named : x .«receiving_index» ≡ index
 
+-- The record of an empty slot is not filled.
+pub record EmptyLaw : Type 0 where
+  pub unfilled : (x : Session) → x ≡ emptySession → x .filled ≡ true → ⊥
+
 -- What the lookups find:
 pub record LookupLaw (s : Sessions) : Type 0 where
-  -- an empty slot is not filled
-  pub vacant : (slot : ℕ) → slotAt s slot ≡ emptySession → slotAt s slot .filled ≡ false
-  -- in the slot of an index, a session that fills it
-  pub slotted : (index : ℕ) (x : Session) → inSlotOf s index ≡ Got x → (slotAt s (slotOf index) .filled ≡ true) × (slotAt s (slotOf index) ≡ x)
   -- by an index, the session that fills its slot and has this index
   pub found : (index : ℕ) (x : Session) → get s index ≡ Got x → InSlot s index x
   -- the current session fills its slot

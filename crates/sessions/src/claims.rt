@@ -7,7 +7,7 @@ ghost use Rattle.sessions.specs.Reservations.{ReservationLaw};
 ghost use lib.ListN.{length};
 ghost use Rattle.sessions.specs.declared.batch.Progress.{Progress};
 ghost use Rattle.sessions.specs.declared.sessions.Sessions.{Sessions};
-ghost use Rattle.sessions.specs.Laws.{SlotsApart, NextIndexLaw, LookupLaw, SlotLaw, WholeLaw, ExpiryLaw, FitsLaw, NextLaw};
+ghost use Rattle.sessions.specs.Laws.{SlotsApart, NextIndexLaw, EmptyLaw, LookupLaw, SlotLaw, WholeLaw, ExpiryLaw, FitsLaw, NextLaw};
 
 // The counters that a session grants to any list of reservations are 0, 1, 2 on, all below the limit.
 pub fn reservation_law()
@@ -22,6 +22,11 @@ pub fn slots_apart()
 // The index allocated next is one or two numbers on, and never has the current session's slot.
 pub fn next_index_law()
     ensures { λ r. ⌜ ((s : Sessions) → NextIndexLaw s) ⌝ }
+{}
+
+// The record of an empty slot is not filled.
+pub fn empty_law()
+    ensures { λ r. ⌜ EmptyLaw ⌝ }
 {}
 
 // What the lookups find: a session that fills its slot, and for sending the current one.

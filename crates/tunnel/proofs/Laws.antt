@@ -10,14 +10,14 @@ use Rattle.sessions.specs.Sessions.{currentOf}
 use Rattle.sessions.specs.declared.sessions.Found.the-variants.{Got}
 use Rattle.tunnel.proofs.Deadline.{deadline-answer}
 use Rattle.tunnel.proofs.Facts.{undamaged-facts, undamaged-holds}
-use Rattle.tunnel.proofs.Framed.{gate-onward, gate-now, gate-good, gate-whole}
+use Rattle.tunnel.proofs.Framed.{gate-onward, gate-now, gate-good, gate-whole, small-jitter}
 use Rattle.tunnel.proofs.Queue.{queue-of-newest}
 use Rattle.tunnel.proofs.Quiet.{wake-quiet}
 use Rattle.tunnel.proofs.Responses.{keepalive-sent, confirming-sessions, response-current, response-good}
-use Rattle.tunnel.proofs.Setting.{calls-keep-setting}
-use Rattle.tunnel.proofs.SoundCalls.{its-control, calls-sound, creation-sound}
+use Rattle.tunnel.proofs.Setting.{on-start, on-restart, on-send, on-receive, on-look, on-incoming, on-response, on-cookie, on-timeout, on-missing, on-timed, on-timeless}
+use Rattle.tunnel.proofs.SoundCalls.{its-control, good-made, timed-sound, good-store, made-sound, timeless-sound}
 use Rattle.tunnel.proofs.SoundSteps.{SoundControl, sound-later}
-use Rattle.tunnel.proofs.Stores.{calls-whole}
+use Rattle.tunnel.proofs.Stores.{kept-whole, batch-store, initiation-store, response-store, timeout-store}
 use Rattle.tunnel.specs.Deadline.{DeadlineLaw}
 use Rattle.tunnel.specs.Facts.{FactsOfUndamaged}
 use Rattle.tunnel.specs.Laws.{GateLaw, SettingLaw, establishing, confirmedBy, ResponseLaw}
@@ -27,6 +27,20 @@ use Rattle.tunnel.specs.Sound.{Sound, SoundLaw, StoreLaw, CreatedLaw}
 use Rattle.tunnel.specs.declared.control.Control.{Control}
 use Rattle.tunnel.specs.declared.handshake.Handshake.{Handshake}
 use Rattle.tunnel.specs.declared.tunnel.Tunnel.{Tunnel}
+use native.Mathlib.Omega.{arith}
+use lib.Dec.{eqb}
+use borrow.Author.Tests.{eqb-true}
+use Rattle.tunnel.proofs.SoundOperations.{unraising, restart-sound, start-sound, send-sound, batch-sound, look-sound, cookie-sound, response-sound, event-sound, missing-sound, initiation-sound}
+use Rattle.base.proofs.Choice.{known-choice}
+use Rattle.tunnel.specs.Control.{pollEvent}
+use Rattle.tunnel.specs.declared.answer.Answer.the-variants.{Done}
+use Rattle.base.proofs.Zeros.{length-zeros}
+use Rattle.sessions.specs.Store.{whole}
+use Rattle.tunnel.specs.Arguments.{openingOutcome, initiationOutcome, creationNumber}
+use Rattle.tunnel.specs.Tunnel.{refused, Called, timedTurn, timedBatch, callNew, callStart, callRestart, callSend, callReceive, callLook, callInitiation, callResponse, callCookie, callTimeout, callEvent, callDeadline, callMissing}
+use Rattle.tunnel.proofs.SoundWaking.{timeout-sound}
+use Rattle.sessions.specs.Batch.{receive}
+use Rattle.tunnel.specs.Encapsulate.{send}
 
 -- the ring of events
 pub queue-law : QueueOfNewest
@@ -42,19 +56,69 @@ gate-law t bad now = record { limited = gate-now t bad now; good = gate-good t b
 
 -- sound tunnels stay sound
 pub sound-law : (t : Tunnel) → Sound t → SoundLaw t
-sound-law = calls-sound
+unfolding callStart callRestart callSend callReceive callLook callInitiation callResponse callCookie callTimeout callEvent callDeadline callMissing timedTurn timedBatch
+sound-law t s =
+    let w : SoundControl (t .control) (t .greatest) = its-control t s in
+    record {
+      start = λ now. timed-sound t s _ now _ (λ b l. start-sound (t .greatest) now l (t .control) w);
+      restart = λ now. timed-sound t s _ now _ (λ b l. restart-sound (t .greatest) now l (t .control) w);
+      send = λ count now. timed-sound t s _ now _ (λ b l. send-sound (t .greatest) now l (t .control) w count);
+      receive = λ store index id now counters kinds verdicts.
+          timed-sound t s _ now _ (λ b l. batch-sound (t .greatest) now l (t .control) w store index id counters kinds verdicts);
+      look = λ store index counter now. timed-sound t s _ now _ (λ b l. look-sound (t .greatest) now l (t .control) w store index counter);
+      initiation = λ store peer outcome now.
+          timed-sound t s _ now _ (λ b l. initiation-sound (t .greatest) now l (t .control) store peer (initiationOutcome outcome) w);
+      response = λ store receiver peer outcome now.
+          timed-sound t s _ now _
+          (λ b l. response-sound (t .greatest) now l (t .control) w store receiver peer (openingOutcome outcome) (good-store (openingOutcome outcome) store b));
+      cookie = λ receiver outcome now. timed-sound t s _ now _ (λ b l. cookie-sound (t .greatest) now l (t .control) w receiver (openingOutcome outcome));
+      timeout = λ store jitter now.
+          timed-sound t s _ now _ (λ b l. timeout-sound (t .greatest) now l (t .control) w store jitter (small-jitter jitter store _ refl b));
+      event = timeless-sound t s _ _ (event-sound (t .greatest) (t .control) w);
+      deadline = timeless-sound t s _ _ (unraising (t .greatest) (t .control) _ w);
+      missing = λ store index. timeless-sound t s _ _ (missing-sound (t .greatest) (t .control) w store index);
+    }
 
 -- a creation is sound
 pub created-law : (store : List ℕ) (index keepalive now : ℕ) → CreatedLaw store index keepalive now
-created-law = creation-sound
+unfolding callNew refused
+created-law store index keepalive now =
+    record {
+      tunnel = known-choice (λ (y : Called). Sound (y .answered .tunnel)) (eqb (creationNumber store keepalive now) 0) _ _
+          (λ e. good-made store index keepalive now (eqb-true _ 0 e)) (λ e. made-sound 0 0 0 (omega arith) (omega arith));
+      words = known-choice (λ (y : Called). y .answered .answer ≡ Done → length (y .store) ≡ 1024) (eqb (creationNumber store keepalive now) 0) _ _
+          (λ e d. length-zeros 1024) (λ e d. let z : _≡_ {A = ℕ} 0 1 = cc in absurd (omega arith));
+    }
 
 -- stores keep their length
 pub store-law : (t : Tunnel) (store : List ℕ) → length store ≡ 1024 → StoreLaw t store
-store-law = calls-whole
+unfolding callReceive callInitiation callResponse callTimeout timedTurn timedBatch
+store-law t store l =
+    record {
+      receive = λ index id now counters kinds verdicts. kept-whole t _ now store _ l (batch-store (t .control) store l index id now counters kinds verdicts);
+      initiation = λ peer outcome now. kept-whole t _ now store _ l (initiation-store (t .control) store peer _ now l);
+      response = λ receiver peer outcome now. kept-whole t _ now store _ l (response-store (t .control) store l receiver peer _ now);
+      timeout = λ jitter now. kept-whole t _ now store _ l (timeout-store (t .control) store l jitter now);
+    }
 
 -- the keepalive's setting stays
 pub setting-law : (t : Tunnel) (store : List ℕ) → SettingLaw t store
-setting-law = calls-keep-setting
+unfolding callStart callRestart callSend callReceive callLook callInitiation callResponse callCookie callTimeout callEvent callDeadline callMissing timedTurn timedBatch pollEvent
+setting-law t store =
+    record {
+      start = λ now. on-timed _ t refl _ now _ (on-start _ _ now refl);
+      restart = λ now. on-timed _ t refl _ now _ (on-restart _ _ now refl);
+      send = λ count now. on-timed _ t refl _ now _ (on-send _ _ count now refl);
+      receive = λ index id now counters kinds verdicts. on-timed _ t refl _ now _ (on-receive _ _ store index id now counters kinds verdicts refl);
+      look = λ index counter now. on-timed _ t refl _ now _ (on-look _ _ store index counter now refl);
+      initiation = λ peer outcome now. on-timed _ t refl _ now _ (on-incoming _ _ store peer _ now refl);
+      response = λ receiver peer outcome now. on-timed _ t refl _ now _ (on-response _ _ store receiver peer _ now refl);
+      cookie = λ receiver outcome now. on-timed _ t refl _ now _ (on-cookie _ _ receiver _ now refl);
+      timeout = λ jitter now. on-timed _ t refl _ now _ (on-timeout _ _ store jitter now refl);
+      event = on-timeless _ t refl _ _ refl;
+      deadline = on-timeless _ t refl _ _ refl;
+      missing = λ index. on-timeless _ t refl _ _ (on-missing _ _ store index refl);
+    }
 
 -- the deadline
 pub deadline-law : (t : Tunnel) → DeadlineLaw t

@@ -1,13 +1,13 @@
--- The persistent keepalive's setting: no call changes it.
+-- The persistent keepalive's setting: no operation changes it, and no frame of a call.
 -- Assumes nothing.
-use mathlib.Core.Path.{_≡_, refl}
+use mathlib.Core.Path.{_≡_}
 use mathlib.Core.Bool.{Bool}
 use mathlib.Core.List.{List}
 use Prim.Native.Nat.{ℕ}
 use Rattle.tunnel.specs.Cases.{known-completed, known-cookie, of-datagram}
 use Rattle.sessions.specs.Cases.{of-missing, of-found, of-reserved, known-received}
 use Rattle.base.proofs.Choice.{of-choice}
-use Rattle.tunnel.specs.Control.{Turn, refuse, done, queueing, pollEvent, missingReport, withTimers}
+use Rattle.tunnel.specs.Control.{Turn, refuse, done, queueing, missingReport, withTimers}
 use Rattle.tunnel.specs.HandleHandshake.{responding, respond, handleHandshakeInitiation, confirming, establish, complete, handleHandshakeResponse, handleCookieReply}
 use Rattle.tunnel.specs.InitiateHandshake.{initiating, initiate, restartHandshake, startHandshake}
 use Rattle.tunnel.specs.Encapsulate.{beginEncapsulate, finishEncapsulate, grant, encryptKeepalive, send}
@@ -21,12 +21,11 @@ use Rattle.tunnel.specs.declared.timers.Interval.{Interval}
 use Rattle.tunnel.specs.declared.timers.Timers.{Timers}
 use Rattle.sessions.specs.declared.batch.Progress.{Progress}
 use Rattle.sessions.specs.declared.session.Session.{Session}
-use Rattle.tunnel.specs.Tunnel.{refused, settled, timed, timeless, timedTurn, timedBatch, callStart, callRestart, callSend, callReceive, callLook, callInitiation, callResponse, callCookie, callTimeout, callEvent, callDeadline, callMissing}
+use Rattle.tunnel.specs.Tunnel.{refused, settled, timed, timeless}
 use Rattle.tunnel.specs.declared.tunnel.Answered.{Answered}
 use Rattle.tunnel.specs.declared.tunnel.Tunnel.{Tunnel}
 use Rattle.tunnel.proofs.Wakings.{WakingKeeps, of-wake}
 use Rattle.tunnel.specs.HandleTimeout.{Inner, clearAll, expireControl, scheduling, queueKeepalive, passiveTimers, keepaliveTimers, sendKeepalive, keepaliveIfDue, sendScheduled, handleTimeout}
-use Rattle.tunnel.specs.Laws.{SettingLaw}
 
 module _ (interval : Interval) where
   -- timers, a control and what holds one have this setting
@@ -54,11 +53,11 @@ module _ (interval : Interval) where
   unfolding initiate initiating
   on-initiate c now h = on-initiation (c .timers) _ now h
 
-  on-restart : (c : Control) (now : ℕ) → Set c → SetOut (restartHandshake c now)
+  pub on-restart : (c : Control) (now : ℕ) → Set c → SetOut (restartHandshake c now)
   unfolding restartHandshake done
   on-restart c now h = of-choice SetOut _ _ _ h (on-initiate c now h)
 
-  on-start : (c : Control) (now : ℕ) → Set c → SetOut (startHandshake c now)
+  pub on-start : (c : Control) (now : ℕ) → Set c → SetOut (startHandshake c now)
   unfolding startHandshake done
   on-start c now h = of-choice SetOut _ _ _ h (on-restart c now h)
 
@@ -67,7 +66,7 @@ module _ (interval : Interval) where
   unfolding grant finishEncapsulate beginEncapsulate done tickLastDataPacketSent tickLastPacketSent
   on-grant c s count now h = of-reserved SetOut _ _ _ h (λ n x. h)
 
-  on-send : (c : Control) (count now : ℕ) → Set c → SetOut (send c count now)
+  pub on-send : (c : Control) (count now : ℕ) → Set c → SetOut (send c count now)
   unfolding send refuse
   on-send c count now h = of-choice SetOut _ _ _ h (of-found SetOut _ _ _ h (λ s. on-grant c s count now h))
 
@@ -89,19 +88,19 @@ module _ (interval : Interval) where
   unfolding accept
   on-accept c x p index now h = of-choice Set _ _ _ (on-confirm _ _ now (on-accepted (c .timers) _ now h)) h
 
-  on-receive : (c : Control) (store : List ℕ) (index id now : ℕ) (counters kinds verdicts : List ℕ) → Set c
+  pub on-receive : (c : Control) (store : List ℕ) (index id now : ℕ) (counters kinds verdicts : List ℕ) → Set c
       → SetOut (commitDecapsulate c store index id now counters kinds verdicts .out)
   unfolding commitDecapsulate refuse done
   on-receive c store index id now counters kinds verdicts h =
       of-choice (λ (b : Batched Out). SetOut (b .out)) _ _ _ h (known-received SetOut _ _ _ (λ n. h) (λ x p e. on-accept c x p index now h))
 
-  on-look : (c : Control) (store : List ℕ) (index counter now : ℕ) → Set c → SetOut (beginDecapsulate c store index counter now)
+  pub on-look : (c : Control) (store : List ℕ) (index counter now : ℕ) → Set c → SetOut (beginDecapsulate c store index counter now)
   unfolding beginDecapsulate refuse
   on-look c store index counter now h =
       of-choice SetOut _ _ _ h (of-found SetOut _ _ _ h (λ s. of-choice SetOut _ _ _ h (of-choice SetOut _ _ _ h h)))
 
   -- handshake messages
-  on-incoming : (c : Control) (store : List ℕ) (peer outcome now : ℕ) → Set c → SetTurn (handleHandshakeInitiation c store peer outcome now)
+  pub on-incoming : (c : Control) (store : List ℕ) (peer outcome now : ℕ) → Set c → SetTurn (handleHandshakeInitiation c store peer outcome now)
   unfolding handleHandshakeInitiation respond responding refuse done tickResponse tickLastHandshakeCompleted tickLastPacketSent tickLastPacketReceived
   on-incoming c store peer outcome now h = of-choice SetTurn _ _ _ h (known-completed SetTurn _ _ _ (λ n. h) (λ x s e. h))
 
@@ -110,13 +109,13 @@ module _ (interval : Interval) where
   on-establish c local now h =
       of-datagram SetOut _ _ _ (on-keepalive _ now (on-confirm _ _ now h)) (λ a b. on-keepalive _ now (on-confirm _ _ now h))
 
-  on-response : (c : Control) (store : List ℕ) (receiver peer outcome now : ℕ) → Set c
+  pub on-response : (c : Control) (store : List ℕ) (receiver peer outcome now : ℕ) → Set c
       → SetTurn (handleHandshakeResponse c store receiver peer outcome now)
   unfolding handleHandshakeResponse complete refuse
   on-response c store receiver peer outcome now h =
       of-choice SetTurn _ _ _ h (known-completed SetTurn _ _ _ (λ n. h) (λ x s e. on-establish _ receiver now h))
 
-  on-cookie : (c : Control) (receiver outcome now : ℕ) → Set c → SetOut (handleCookieReply c receiver outcome now)
+  pub on-cookie : (c : Control) (receiver outcome now : ℕ) → Set c → SetOut (handleCookieReply c receiver outcome now)
   unfolding handleCookieReply refuse done
   on-cookie c receiver outcome now h = of-choice SetOut _ _ _ h (known-cookie SetOut _ _ _ (λ n. h) (λ x e. h))
 
@@ -152,40 +151,21 @@ module _ (interval : Interval) where
         expires = λ c store h. h;
       }
 
-  on-timeout : (c : Control) (store : List ℕ) (jitter now : ℕ) → Set c → SetTurn (handleTimeout c store jitter now)
+  pub on-timeout : (c : Control) (store : List ℕ) (jitter now : ℕ) → Set c → SetTurn (handleTimeout c store jitter now)
   unfolding handleTimeout done
   on-timeout c store jitter now h = of-choice SetTurn _ _ _ h (of-wake (λ (x : Control) (left : List ℕ). Set x) jitter now (waking-keeps jitter now) c store h)
 
   -- the missing report
-  on-missing : (c : Control) (store : List ℕ) (index : ℕ) → Set c → SetOut (missingReport c store index)
+  pub on-missing : (c : Control) (store : List ℕ) (index : ℕ) → Set c → SetOut (missingReport c store index)
   unfolding missingReport refuse
   on-missing c store index h = of-missing SetOut _ _ _ (λ n. h) (λ n. h)
 
   -- the frames
   module _ (t : Tunnel) (h : Set (t .control)) where
-    on-timed : (bad : Bool) (now : ℕ) (out : Out) → SetOut out → Set (timed t bad now out .tunnel .control)
+    pub on-timed : (bad : Bool) (now : ℕ) (out : Out) → SetOut out → Set (timed t bad now out .tunnel .control)
     unfolding timed settled refused
     on-timed bad now out k = of-choice (λ (a : Answered). Set (a .tunnel .control)) _ _ _ k h
 
-    on-timeless : (bad : Bool) (out : Out) → SetOut out → Set (timeless t bad out .tunnel .control)
+    pub on-timeless : (bad : Bool) (out : Out) → SetOut out → Set (timeless t bad out .tunnel .control)
     unfolding timeless settled refused
     on-timeless bad out k = of-choice (λ (a : Answered). Set (a .tunnel .control)) _ _ _ k h
-
--- every call
-pub calls-keep-setting : (t : Tunnel) (store : List ℕ) → SettingLaw t store
-unfolding callStart callRestart callSend callReceive callLook callInitiation callResponse callCookie callTimeout callEvent callDeadline callMissing timedTurn timedBatch pollEvent
-calls-keep-setting t store =
-    record {
-      start = λ now. on-timed _ t refl _ now _ (on-start _ _ now refl);
-      restart = λ now. on-timed _ t refl _ now _ (on-restart _ _ now refl);
-      send = λ count now. on-timed _ t refl _ now _ (on-send _ _ count now refl);
-      receive = λ index id now counters kinds verdicts. on-timed _ t refl _ now _ (on-receive _ _ store index id now counters kinds verdicts refl);
-      look = λ index counter now. on-timed _ t refl _ now _ (on-look _ _ store index counter now refl);
-      initiation = λ peer outcome now. on-timed _ t refl _ now _ (on-incoming _ _ store peer _ now refl);
-      response = λ receiver peer outcome now. on-timed _ t refl _ now _ (on-response _ _ store receiver peer _ now refl);
-      cookie = λ receiver outcome now. on-timed _ t refl _ now _ (on-cookie _ _ receiver _ now refl);
-      timeout = λ jitter now. on-timed _ t refl _ now _ (on-timeout _ _ store jitter now refl);
-      event = on-timeless _ t refl _ _ refl;
-      deadline = on-timeless _ t refl _ _ refl;
-      missing = λ index. on-timeless _ t refl _ _ (on-missing _ _ store index refl);
-    }

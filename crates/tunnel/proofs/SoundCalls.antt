@@ -1,4 +1,4 @@
--- Every call keeps a sound tunnel sound, and a creation makes one.
+-- What keeps a tunnel sound: the frames of the calls over operations that keep its control sound, and a creation.
 -- Assumes nothing.
 use mathlib.Core.Path.{_≡_, refl, sym}
 use mathlib.Core.Bool.{Bool, true, false, true≢false}
@@ -10,30 +10,27 @@ use lib.ListN.{length}
 use borrow.Author.Tests.{eqb-true, eqb-false}
 use Rattle.base.specs.Choice.{choose}
 use Rattle.tunnel.proofs.Kept.{never-within, on-new, on-new-handshake, on-new-ring}
-use Rattle.tunnel.proofs.SoundOperations.{SoundOut, SoundStill, unraising, restart-sound, start-sound, send-sound, batch-sound, look-sound, cookie-sound, response-sound, event-sound, missing-sound, initiation-sound}
+use Rattle.tunnel.proofs.SoundOperations.{SoundOut, SoundStill}
 use Rattle.base.proofs.Choice.{known-choice, no-fault}
 use Rattle.tunnel.proofs.SoundSteps.{SoundControl, eight-empty}
 use Rattle.tunnel.proofs.Steps.{all-empty}
 use Rattle.tunnel.specs.Control.{newControl}
-use Rattle.tunnel.specs.declared.answer.Answer.the-variants.{Done}
 use Rattle.tunnel.specs.declared.control.Out.{Out}
 use Rattle.tunnel.proofs.Queue.{queue-of-newest}
 use Rattle.tunnel.specs.Timers.{IntervalWithin, greatestInterval}
 use Rattle.tunnel.specs.declared.timers.Interval.the-variants.{Off, Every}
 use Rattle.tunnel.specs.declared.timers.Interval.{Interval}
-use Rattle.base.proofs.Zeros.{length-zeros}
 use Rattle.sessions.specs.Session.{timeLimit}
 use Rattle.sessions.specs.Sessions.{newSessions}
 use Rattle.sessions.specs.Store.{whole}
 use Rattle.tunnel.proofs.Facts.{undamaged-facts, undamaged-holds}
-use Rattle.tunnel.proofs.Framed.{gate-onward, gate-now, gate-good, small-jitter, GoodCreation, good-creation}
-use Rattle.tunnel.specs.Arguments.{intervalOf, openingOutcome, initiationOutcome, lacking, badOutcome, creationNumber}
+use Rattle.tunnel.proofs.Framed.{gate-onward, gate-now, gate-good, GoodCreation, good-creation}
+use Rattle.tunnel.specs.Arguments.{intervalOf, lacking, badOutcome, creationNumber}
 use Rattle.tunnel.specs.Facts.{Undamaged}
-use Rattle.tunnel.specs.Sound.{Sound, SoundLaw, CreatedLaw}
-use Rattle.tunnel.specs.Tunnel.{made, gate, timelessGate, refused, settled, timed, timeless, Called, timedTurn, timedBatch, callNew, callStart, callRestart, callSend, callReceive, callLook, callInitiation, callResponse, callCookie, callTimeout, callEvent, callDeadline, callMissing}
+use Rattle.tunnel.specs.Sound.{Sound}
+use Rattle.tunnel.specs.Tunnel.{made, gate, timelessGate, refused, settled, timed, timeless}
 use Rattle.tunnel.specs.declared.tunnel.Answered.{Answered}
 use Rattle.tunnel.specs.declared.tunnel.Tunnel.{Tunnel}
-use Rattle.tunnel.proofs.SoundWaking.{timeout-sound}
 
 -- a sound tunnel's control, and a tunnel with a sound control
 pub its-control : (t : Tunnel) → Sound t → SoundControl (t .control) (t .greatest)
@@ -69,7 +66,7 @@ module _ (t : Tunnel) (s : Sound t) where
       let f : Undamaged t = undamaged-facts t (s .holds) in
       rw (o .unraised, o .unticked) (tunnel-sound _ (f .latest) (f .updated) (o .sound))
 
-  timed-sound : (bad : Bool) (now : ℕ) (out : Out) → (bad ≡ false → t .greatest ≤ now → SoundOut out (t .greatest) now)
+  pub timed-sound : (bad : Bool) (now : ℕ) (out : Out) → (bad ≡ false → t .greatest ≤ now → SoundOut out (t .greatest) now)
       → Sound (timed t bad now out .tunnel)
   unfolding timed refused
   timed-sound bad now out o =
@@ -86,34 +83,9 @@ module _ (t : Tunnel) (s : Sound t) where
       known-choice (λ (y : Answered). Sound (y .tunnel)) (eqb (timelessGate t bad) 0) _ _ (λ e. unsettled-sound out o) (λ e. s)
 
 -- a store that comes with a good outcome
-good-store : (found : ℕ) (store : List ℕ) → badOutcome found store ≡ false → length store ≡ 1024
+pub good-store : (found : ℕ) (store : List ℕ) → badOutcome found store ≡ false → length store ≡ 1024
 unfolding badOutcome lacking
 good-store found store e = eqb-true (length store) 1024 (no-fault (eqb found 2) (whole store) e)
-
--- the calls
-pub calls-sound : (t : Tunnel) → Sound t → SoundLaw t
-unfolding callStart callRestart callSend callReceive callLook callInitiation callResponse callCookie callTimeout callEvent callDeadline callMissing timedTurn timedBatch
-calls-sound t s =
-    let w : SoundControl (t .control) (t .greatest) = its-control t s in
-    record {
-      start = λ now. timed-sound t s _ now _ (λ b l. start-sound (t .greatest) now l (t .control) w);
-      restart = λ now. timed-sound t s _ now _ (λ b l. restart-sound (t .greatest) now l (t .control) w);
-      send = λ count now. timed-sound t s _ now _ (λ b l. send-sound (t .greatest) now l (t .control) w count);
-      receive = λ store index id now counters kinds verdicts.
-          timed-sound t s _ now _ (λ b l. batch-sound (t .greatest) now l (t .control) w store index id counters kinds verdicts);
-      look = λ store index counter now. timed-sound t s _ now _ (λ b l. look-sound (t .greatest) now l (t .control) w store index counter);
-      initiation = λ store peer outcome now.
-          timed-sound t s _ now _ (λ b l. initiation-sound (t .greatest) now l (t .control) store peer (initiationOutcome outcome) w);
-      response = λ store receiver peer outcome now.
-          timed-sound t s _ now _
-          (λ b l. response-sound (t .greatest) now l (t .control) w store receiver peer (openingOutcome outcome) (good-store (openingOutcome outcome) store b));
-      cookie = λ receiver outcome now. timed-sound t s _ now _ (λ b l. cookie-sound (t .greatest) now l (t .control) w receiver (openingOutcome outcome));
-      timeout = λ store jitter now.
-          timed-sound t s _ now _ (λ b l. timeout-sound (t .greatest) now l (t .control) w store jitter (small-jitter jitter store _ refl b));
-      event = timeless-sound t s _ _ (event-sound (t .greatest) (t .control) w);
-      deadline = timeless-sound t s _ _ (unraising (t .greatest) (t .control) _ w);
-      missing = λ store index. timeless-sound t s _ _ (missing-sound (t .greatest) (t .control) w store index);
-    }
 
 -- the keepalive of a creation
 off-within : IntervalWithin Off
@@ -145,22 +117,12 @@ new-sound index interval now i =
       sixteen = queue-of-newest .fresh .places;
     }
 
-made-sound : (index keepalive now : ℕ) → keepalive ≤ greatestInterval → now ≤ timeLimit → Sound (made index keepalive now)
+pub made-sound : (index keepalive now : ℕ) → keepalive ≤ greatestInterval → now ≤ timeLimit → Sound (made index keepalive now)
 unfolding made
 made-sound index keepalive now k l = tunnel-sound _ l (omega arith) (new-sound index (intervalOf keepalive) now (interval-within keepalive k))
 
 module _ (store : List ℕ) (index keepalive now : ℕ) where
-  good-made : creationNumber store keepalive now ≡ 0 → Sound (made index keepalive now)
+  pub good-made : creationNumber store keepalive now ≡ 0 → Sound (made index keepalive now)
   good-made z =
       let g : GoodCreation store keepalive now = good-creation store keepalive now z in
       made-sound index keepalive now (g .keepalive) (g .time)
-
-  pub creation-sound : CreatedLaw store index keepalive now
-  unfolding callNew refused
-  creation-sound =
-      record {
-        tunnel = known-choice (λ (y : Called). Sound (y .answered .tunnel)) (eqb (creationNumber store keepalive now) 0) _ _
-            (λ e. good-made (eqb-true _ 0 e)) (λ e. made-sound 0 0 0 (omega arith) (omega arith));
-        words = known-choice (λ (y : Called). y .answered .answer ≡ Done → length (y .store) ≡ 1024) (eqb (creationNumber store keepalive now) 0) _ _
-            (λ e d. length-zeros 1024) (λ e d. let z : _≡_ {A = ℕ} 0 1 = cc in absurd (omega arith));
-      }

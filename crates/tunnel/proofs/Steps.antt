@@ -1,12 +1,12 @@
 -- Every step of the operations keeps the facts of number 14, and the ring of events in range.
 -- Assumes nothing.
 use mathlib.Core.Path.{_≡_, refl}
-use mathlib.Core.Bool.{Bool, true, false}
+use mathlib.Core.Bool.{true}
 use mathlib.Core.List.{List, [], _∷_}
 use Prim.Native.Nat.{ℕ, zero, suc, _<_}
 use native.Mathlib.Omega.{arith}
 use lib.ListN.{length, getD, set, getD-replicate}
-use Rattle.base.specs.Choice.{choose}
+use Rattle.sessions.proofs.Laws.{empty-law}
 use Rattle.tunnel.proofs.Kept.{on-push, on-clear-cookie}
 use Rattle.tunnel.specs.Control.{withHandshake, withSessions, withTimers, queueing}
 use Rattle.tunnel.specs.Facts.{SlotWithin, SessionsWithin, EventWithin, ControlWithin}
@@ -19,16 +19,11 @@ use Rattle.tunnel.specs.Timers.{TimersWithin}
 use Rattle.tunnel.specs.declared.event.Event.{Event}
 use Rattle.tunnel.specs.declared.handshake.Handshake.{Handshake}
 use Rattle.tunnel.specs.declared.timers.Timers.{Timers}
-use Rattle.sessions.specs.Cases.{caseReserved, caseFound}
 use Rattle.sessions.specs.Session.{emptySession}
 use Rattle.sessions.specs.Sessions.{withSlots, withCurrent, Held, emptySlots, clear, slotAt, emptied, Expiring, discard, expireSlot, expireFirst, expire}
 use Rattle.sessions.specs.Store.{Leaves}
-use Rattle.sessions.specs.declared.session.Reserved.the-variants.{TooFew, First}
-use Rattle.sessions.specs.declared.session.Reserved.{Reserved}
 use Rattle.sessions.specs.declared.session.Session.{Session}
 use Rattle.sessions.specs.declared.sessions.Expired.{Expired}
-use Rattle.sessions.specs.declared.sessions.Found.the-variants.{Nothing, Got}
-use Rattle.sessions.specs.declared.sessions.Found.{Found}
 use Rattle.sessions.specs.declared.sessions.Selected.the-variants.{Unset}
 use Rattle.sessions.specs.declared.sessions.Selected.{Selected}
 use Rattle.sessions.specs.declared.sessions.Sessions.{Sessions}
@@ -78,14 +73,10 @@ module _ (most : ℕ) where
   on-expire s store now w = of-expire (λ (x : Sessions). SessionsWithin x most) on-emptied (λ x v. on-selected x Unset v) s store now w
 
 -- eight empty slots hold no session
-pub not-empty : (x : Session) → x ≡ emptySession → x .filled ≡ true → ⊥
-unfolding emptySession
-not-empty x e f = let z : _≡_ {A = ℕ} 0 1 = cc in omega arith
-
 module _ (most : ℕ) where
   pub all-empty : (s : Sessions) → SessionsWithin (withSlots s emptySlots) most
   unfolding emptySlots
-  all-empty s = record { slots = λ k h f. absurd (not-empty _ (getD-replicate 8 k emptySession emptySession h) f) }
+  all-empty s = record { slots = λ k h f. absurd (empty-law .unfilled _ (getD-replicate 8 k emptySession emptySession h) f) }
 
   pub on-clear-sessions : (s : Sessions) (store : List ℕ) → SessionsWithin s most → SessionsWithin (clear s store .sessions) most
   unfolding clear

@@ -10,13 +10,12 @@ use Rattle.tunnel.specs.Control.{Turn}
 use Rattle.tunnel.specs.HandleHandshake.{respond, handleHandshakeInitiation, handleHandshakeResponse}
 use Rattle.tunnel.specs.Decapsulate.{commitDecapsulate}
 use Rattle.tunnel.specs.declared.control.Control.{Control}
-use Rattle.sessions.specs.Batch.{receive, Batched}
+use Rattle.sessions.specs.Batch.{Batched}
 use Rattle.tunnel.specs.declared.control.Out.{Out}
 use Rattle.tunnel.proofs.Wakings.{WakingKeeps, of-wake}
 use Rattle.tunnel.specs.HandleTimeout.{clearAll, expireControl, handleDue, handleTimeout}
 use mathlib.Core.Bool.{Bool}
-use Rattle.tunnel.specs.Sound.{StoreLaw}
-use Rattle.tunnel.specs.Tunnel.{kept, timedTurn, timedBatch, callReceive, callInitiation, callResponse, callTimeout}
+use Rattle.tunnel.specs.Tunnel.{kept}
 use Rattle.tunnel.specs.declared.tunnel.Tunnel.{Tunnel}
 use Rattle.sessions.proofs.Laws.{whole-law}
 
@@ -69,16 +68,6 @@ unfolding handleTimeout
 timeout-store c store l jitter now = of-choice (λ (y : Turn). Whole (y .store)) _ _ _ l (wake-whole c store jitter now l)
 
 -- what a call leaves in place of the store that came
-kept-whole : (t : Tunnel) (bad : Bool) (now : ℕ) (came left : List ℕ) → Whole came → Whole left → Whole (kept t bad now came left)
+pub kept-whole : (t : Tunnel) (bad : Bool) (now : ℕ) (came left : List ℕ) → Whole came → Whole left → Whole (kept t bad now came left)
 unfolding kept
 kept-whole t bad now came left l m = of-choice Whole _ _ _ m l
-
-pub calls-whole : (t : Tunnel) (store : List ℕ) → length store ≡ 1024 → StoreLaw t store
-unfolding callReceive callInitiation callResponse callTimeout timedTurn timedBatch
-calls-whole t store l =
-    record {
-      receive = λ index id now counters kinds verdicts. kept-whole t _ now store _ l (batch-store (t .control) store l index id now counters kinds verdicts);
-      initiation = λ peer outcome now. kept-whole t _ now store _ l (initiation-store (t .control) store peer _ now l);
-      response = λ receiver peer outcome now. kept-whole t _ now store _ l (response-store (t .control) store l receiver peer _ now);
-      timeout = λ jitter now. kept-whole t _ now store _ l (timeout-store (t .control) store l jitter now);
-    }
