@@ -25,7 +25,7 @@ use tunnel::tunnel::Tunnel;
 struct Asked {
     case: u8,
     pattern: u8,
-    length: u8,
+    len: u8,
     turns: usize,
 }
 
@@ -35,14 +35,14 @@ fn ask(input: &[u8]) -> Asked {
         return Asked {
             case: 0,
             pattern: 0,
-            length: 0,
+            len: 0,
             turns: 0,
         };
     }
     Asked {
         case: input[0],
         pattern: input[1],
-        length: input[2],
+        len: input[2],
         turns: input.len() - 3,
     }
 }
@@ -80,19 +80,19 @@ fn cut(
     verdicts: &mut [u8],
     asked: Asked,
 ) -> Tunnel {
-    let length = length_of(asked.length);
-    if length > kinds.len() {
+    let len = length_of(asked.len);
+    if len > kinds.len() {
         return tunnel;
     }
-    if length > verdicts.len() {
+    if len > verdicts.len() {
         return tunnel;
     }
     listed(
         tunnel,
         store,
         counters,
-        &kinds[0..length],
-        &mut verdicts[0..length],
+        &kinds[0..len],
+        &mut verdicts[0..len],
         asked,
     )
 }

@@ -66,8 +66,8 @@ fn long_lists() -> Tally {
 }
 
 // A batch of so many messages with a kind at a place.
-fn kind_case(length: usize, place: usize, kind: u8, expected: u64) -> Tally {
-    let mut request = good(RECEIVE, GREATEST).with_lists(length, length, length);
+fn kind_case(len: usize, place: usize, kind: u8, expected: u64) -> Tally {
+    let mut request = good(RECEIVE, GREATEST).with_lists(len, len, len);
     request.kind = kind;
     request.place = place;
     one(no_damage(), request, expected)

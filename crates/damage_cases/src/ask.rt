@@ -76,7 +76,7 @@ fn ask_lists(
     tunnel.receive(
         store,
         r.index,
-        0,
+        r.id,
         r.now,
         &counters[..a],
         &kinds[..b],

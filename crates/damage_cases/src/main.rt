@@ -1,9 +1,10 @@
 // Damaged tunnels and arguments out of range: a damaged tunnel for each clause of number 14, and each call with it; stores and lists
-// of wrong length; what number 14 does not look at; and the order of the checks. A call that is turned down must hand everything
-// back as it came: the tunnel is compared field by field, the store and the verdicts element by element. Lists that are lent for
-// reading only cannot change.
+// of wrong length; what number 14 does not look at; the order of the checks; and batches that find no live session. A call that is
+// turned down must hand everything back as it came: the tunnel is compared field by field, the store and the verdicts element by
+// element. Lists that are lent for reading only cannot change.
 mod arguments;
 mod ask;
+mod batches;
 mod clauses;
 mod creation;
 mod damage;
@@ -18,6 +19,7 @@ mod tally;
 mod unlooked;
 
 use crate::arguments::argument_groups;
+use crate::batches::batch_groups;
 use crate::clauses::clause_groups;
 use crate::creation::creation_groups;
 use crate::order::order_groups;
@@ -26,5 +28,6 @@ fn main() {
     clause_groups();
     argument_groups();
     order_groups();
+    batch_groups();
     creation_groups();
 }

@@ -47,6 +47,8 @@ pub struct Request {
     pub call: u64,
     pub now: u64,
     pub index: u32,
+    // The id of the session that a batch is for.
+    pub id: u64,
     pub peer: u32,
     // The counter of a look and of each message.
     pub counter: u64,
@@ -81,6 +83,7 @@ pub fn good(call: u64, now: u64) -> Request {
         call,
         now,
         index: good_index(call),
+        id: 0,
         peer: 7,
         counter: 9,
         count: 1,

@@ -1,6 +1,6 @@
 -- The three conditions of demand 3 as tests of a list of steps: where a test is true, its condition holds.
 -- Assumes nothing.
-use mathlib.Core.Path.{_≡_, refl, ap, subst}
+use mathlib.Core.Path.{_≡_, refl, subst}
 use mathlib.Core.Bool.{Bool, true, false}
 use mathlib.Core.List.{List, [], _∷_, _++_}
 use mathlib.Core.Logic.{_⊎_, inl, inr}
@@ -13,8 +13,8 @@ use Rattle.tunnel.specs.Answer.{numberOf}
 use Rattle.tunnel.specs.declared.answer.Answer.the-variants.{No, Done, NoAnswer, Initiation, Response, Keepalive, Granted, Polled, Deadline, Report}
 use Rattle.tunnel.specs.declared.answer.Answer.{Answer}
 use Rattle.demands.specs.Calls.Call.{send, timeout, deadline}
-use Rattle.demands.specs.Calls.{Call, World, step, after}
-use Rattle.demands.specs.Wakings.{Step, shared, extra, wokenCalls, Ran, ran, ranAfter, Current, Expired, BeforeDeadline, timeOf, NotEarlier, ComesEarly, CurrentOrUnset, InOrder}
+use Rattle.demands.specs.Calls.{Call, World, step, after, Expired}
+use Rattle.demands.specs.Wakings.{Step, shared, extra, wokenCalls, Ran, ran, ranAfter, Current, BeforeDeadline, timeOf, NotEarlier, ComesEarly, CurrentOrUnset, InOrder}
 use Rattle.sessions.specs.Cases.{caseTime, caseFound}
 use Rattle.sessions.specs.Sessions.{currentOf}
 use Rattle.sessions.specs.declared.session.Session.{Session}
@@ -38,19 +38,6 @@ of-either false b e = inr e
 -- an answer that is number 11
 unfoldable pub isEleven : Answer → Bool
 isEleven answer = eqb (numberOf answer) 11
-
-of-eleven : (answer : Answer) → numberOf answer ≡ 11 → answer ≡ No 11
-unfolding numberOf
-of-eleven (No number) e = ap No e
-of-eleven Done e = absurd (omega arith)
-of-eleven NoAnswer e = absurd (omega arith)
-of-eleven (Initiation local) e = absurd (omega arith)
-of-eleven (Response local peer) e = absurd (omega arith)
-of-eleven (Keepalive peer counter) e = absurd (omega arith)
-of-eleven (Granted granted) e = absurd (omega arith)
-of-eleven (Polled event) e = absurd (omega arith)
-of-eleven (Deadline time) e = absurd (omega arith)
-of-eleven (Report count) e = absurd (omega arith)
 
 -- an answer that is a deadline above a time
 unfoldable pub isAbove : ℕ → Answer → Bool
@@ -88,7 +75,7 @@ testExpired w = isEleven (step w (send 1 (w .tunnel .greatest)) .answer)
 
 expired-is : (w : World) → testExpired w ≡ true → Expired w
 unfolding testExpired isEleven
-expired-is w e = of-eleven _ (eqb-true _ 11 e)
+expired-is w e = eqb-true _ 11 e
 
 -- the first condition
 unfoldable pub testEarly : World → List Step → Bool

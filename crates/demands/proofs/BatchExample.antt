@@ -16,7 +16,7 @@ use Rattle.sessions.specs.Cases.{caseFound}
 use Rattle.sessions.specs.Sessions.{emptySlots, newSessions, inSlotOf, get, put, inserting, insert}
 use Rattle.sessions.specs.Batch.{known, fits, receivingSession}
 use Rattle.demands.specs.History.{verdictOn, recorded, verdictsOn, Stands}
-use Rattle.demands.specs.History.{LiveBatch}
+use Rattle.demands.specs.History.{BatchFor}
 use Rattle.demands.specs.BatchExample.{firstSession, firstHeld}
 use Rattle.demands.specs.BatchExample.{example, BatchExampleLaw}
 use Rattle.demands.proofs.Judged.{inserted-law, batch-law}
@@ -49,7 +49,7 @@ fits-first : fits (0 ∷ 5 ∷ 0 ∷ []) (0 ∷ 0 ∷ 0 ∷ []) (0 ∷ 0 ∷ 0 �
 unfolding fits known choose
 fits-first = refl
 
-live-first : LiveBatch example firstSession []
+live-first : BatchFor example firstSession []
 unfolding example
 live-first = record { eight = slots-first; size = store-first; batch = fits-first; found = found-first; stands = stands-first }
 

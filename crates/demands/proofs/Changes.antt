@@ -6,19 +6,21 @@ use mathlib.Core.Bool.{true}
 use mathlib.Core.List.{List, [], _∷_, _++_, append-nil}
 use Prim.Native.Nat.{ℕ, _+_, _%_, _^_, _≤_, _<_}
 use native.Mathlib.Omega.{arith}
-use lib.ListN.{length, length-set}
+use lib.ListN.{length, length-set, length-append}
+use lib.Seq.{getD-append-seam}
 use borrow.Author.Tests.{eq-eqb}
 use Rattle.base.specs.Choice.{choose}
 use Rattle.base.proofs.Counting.{join-upFrom, length-upFrom}
-use Rattle.demands.proofs.Held.{counters-on, counters-own, counters-other, Runs, SlotHeld, Held, Changed, held-changed}
+use Rattle.demands.proofs.Held.{counters-on, counters-own, counters-other, Runs, messageIn, insertionAt, longer-same, longer-on, SlotHeld, Held, found-filled, held-found, Changed, held-changed}
 use Rattle.sessions.specs.Laws.{InSlot, Kept}
 use Rattle.sessions.proofs.Laws.{lookup-law, slot-law, whole-law, slots-apart}
 use Rattle.demands.proofs.Moves.{put-at, changed-put}
+use Rattle.demands.specs.Made.{Insertion}
 use Rattle.demands.specs.Sending.{Grant, granting, countersOf}
 use Rattle.base.specs.Lists.{upFrom, zeros}
 use Rattle.demands.proofs.Judged.{batch-law, inserted-law, judged-stands, batchOf, sessionAfter, storeAfter}
 use Rattle.sessions.specs.Batch.{receivingSession, fits}
-use Rattle.demands.specs.History.{recordedAll, BatchLaw, BatchCall, LiveBatch}
+use Rattle.demands.specs.History.{recordedAll, BatchLaw, BatchCall, BatchFor}
 use Rattle.sessions.specs.Index.{slotOf}
 use Rattle.sessions.specs.Session.{withId}
 use Rattle.sessions.specs.Sessions.{slotAt, put, inserting, insert}
@@ -37,48 +39,46 @@ changed-on s t u store mid left j a b =
       others = λ k low d. (b .others k low d .0 ∙ a .others k low d .0, b .others k low d .1 ∙ a .others k low d .1);
     }
 
--- what is known of a slot's record is known of one that is the same
-of-same : (n : ℕ) (h : ℕ → List ℕ) (g : List Grant) (j : ℕ) (words : List ℕ) (z x : Session) → z ≡ x → SlotHeld n h g j z words → SlotHeld n h g j x words
-of-same n h g j words z x e o = rw (← e) o
-
--- a session that has the identity of another: its id, its index and its window's next
+-- a session that has the identity of another: its id, its index, its handshake message and its window's next
 pub record Alike (x y : Session) : Type 0 where
   pub id : y .id ≡ x .id
   pub index : y .«receiving_index» ≡ x .«receiving_index»
+  pub message : messageIn y ≡ messageIn x
   pub next : y .next ≡ x .next
 
-module _ (n : ℕ) (h : ℕ → List ℕ) (g : List Grant) (s last : Sessions) (store : List ℕ) (w : Held n h g s store) (x y : Session)
+module _ (ins : List Insertion) (h : ℕ → List ℕ) (g : List Grant) (s last : Sessions) (store : List ℕ) (w : Held ins h g s store) (x y : Session)
     (found : InSlot s (x .«receiving_index») x) (same : Alike x y) where
   abbrev j : ℕ
   j = slotOf (x .«receiving_index»)
 
   filled-slot : slotAt s j .filled ≡ true
-  filled-slot = ap (λ (z : Session). z .filled) (found .stored) ∙ found .filled
+  filled-slot = found-filled ins h g s store w (x .«receiving_index») x found
 
-  own-slot : SlotHeld n h g j x (slotWords store j)
-  own-slot = of-same n h g j (slotWords store j) (slotAt s j) x (found .stored) (w .slots j (omega arith) filled-slot)
+  own-slot : SlotHeld ins h g j x (slotWords store j)
+  own-slot = held-found ins h g s store w (x .«receiving_index») x found
 
   module _ (c : Changed s last store store j) (there : slotAt last j ≡ y) (count : last .inserted ≡ s .inserted) (below : y .«sending_key_counter» ≤ limit) where
     -- grants that give this session its counters up to where its send counter stands
     held-counted : (f : List Grant) → ((id : ℕ) → (id ≡ x .id → ⊥) → countersOf id f ≡ countersOf id g)
-        → countersOf (x .id) f ≡ upFrom 0 (y .«sending_key_counter») → Held n h f last store
+        → countersOf (x .id) f ≡ upFrom 0 (y .«sending_key_counter») → Held ins h f last store
     held-counted f others own =
         let id : slotAt last j .id ≡ x .id = ap (λ (z : Session). z .id) there ∙ same .id in
-        let mine : SlotHeld n h f j y (slotWords store j) =
+        let mine : SlotHeld ins h f j y (slotWords store j) =
         record {
           placed = ap slotOf (same .index);
           named = rw (same .id) (own-slot .named);
+          message = ap (λ (i : ℕ). insertionAt ins i) (same .id) ∙ own-slot .message ∙ sym (same .message);
           stands = rw (same .id, same .next) (own-slot .stands);
           granted = ap (λ (i : ℕ). countersOf i f) (same .id) ∙ own;
         } in
-        held-changed n n h h g f s last store store j w c (omega arith) (count ∙ w .count) (rw there mine)
+        held-changed ins ins h h g f s last store store j w c (longer-same ins) (count ∙ w .count) (rw there mine)
         (λ k low d q p. d (w .apart k j low (omega arith) q filled-slot (p ∙ id ∙ ap (λ (z : Session). z .id) (sym (found .stored)))))
         (λ i d. refl) (λ i d. others i (λ p. d (p ∙ sym id)))
         (record { count = y .«sending_key_counter»; are = ap (λ (i : ℕ). countersOf i f) id ∙ own; below = below })
 
     -- so many counters granted
     pub held-granted : (peer len : ℕ) → y .«sending_key_counter» ≡ x .«sending_key_counter» + len
-        → Held n h (g ++ granting (x .id) peer (x .«sending_key_counter») len ∷ []) last store
+        → Held ins h (g ++ granting (x .id) peer (x .«sending_key_counter») len ∷ []) last store
     held-granted peer len e =
         let start : 0 + x .«sending_key_counter» ≡ x .«sending_key_counter» = omega arith in
         held-counted _
@@ -98,13 +98,13 @@ module _ (n : ℕ) (h : ℕ → List ℕ) (g : List Grant) (s last : Sessions) (
 
   -- nothing granted
   pub held-marked : Changed s last store store j → slotAt last j ≡ y → last .inserted ≡ s .inserted → y .«sending_key_counter» ≡ x .«sending_key_counter»
-      → Held n h g last store
+      → Held ins h g last store
   held-marked c there count e =
       held-counted c there count (rw e counter-below) g (λ i d. refl) (own-slot .granted ∙ ap (λ (i : ℕ). upFrom 0 i) (sym e))
 
 -- a session inserted
-module _ (n : ℕ) (h : ℕ → List ℕ) (g : List Grant) (s : Sessions) (store : List ℕ) (w : Held n h g s store) (x : Session)
-    (filled : x .filled ≡ true) (next : x .next ≡ 0) (counter : x .«sending_key_counter» ≡ 0) (few : n + 1 < 2 ^ 64) where
+module _ (ins : List Insertion) (h : ℕ → List ℕ) (g : List Grant) (s : Sessions) (store : List ℕ) (w : Held ins h g s store) (x : Session)
+    (filled : x .filled ≡ true) (next : x .next ≡ 0) (counter : x .«sending_key_counter» ≡ 0) (few : length ins + 1 < 2 ^ 64) where
   abbrev slot : ℕ
   slot = slotOf (x .«receiving_index»)
 
@@ -120,9 +120,15 @@ module _ (n : ℕ) (h : ℕ → List ℕ) (g : List Grant) (s : Sessions) (store
   unfolding inserting
   inserted-at = rw inserted (put-at s (withId x (s .inserted)) store (w .eight))
 
-  count-more : insert s store x .sessions .inserted ≡ n + 1
+  abbrev then : List Insertion
+  then = ins ++ messageIn x ∷ []
+
+  one-more : length then ≡ length ins + 1
+  one-more = length-append ins (messageIn x ∷ [])
+
+  count-more : insert s store x .sessions .inserted ≡ length then
   unfolding inserting
-  count-more = let e : (s .inserted + 1) % 2 ^ 64 ≡ n + 1 = omega (arith, w .count) in rw inserted e
+  count-more = let e : (s .inserted + 1) % 2 ^ 64 ≡ length then = omega (arith, w .count, one-more) in rw inserted e
 
   long : length (insert s store x .sessions .slots) ≡ length (s .slots)
   unfolding inserting put
@@ -132,30 +138,32 @@ module _ (n : ℕ) (h : ℕ → List ℕ) (g : List Grant) (s : Sessions) (store
   unfolding upFrom
   none-yet = refl
 
-  pub held-inserted : Held (n + 1) h g (insert s store x .sessions) (insert s store x .store)
+  pub held-inserted : Held then h g (insert s store x .sessions) (insert s store x .store)
   held-inserted =
-      let id : slotAt (insert s store x .sessions) slot .id ≡ n = ap (λ (z : Session). z .id) inserted-at ∙ w .count in
-      held-changed n (n + 1) h h g g s (insert s store x .sessions) store (insert s store x .store) slot w
+      let id : slotAt (insert s store x .sessions) slot .id ≡ length ins = ap (λ (z : Session). z .id) inserted-at ∙ w .count in
+      held-changed ins then h h g g s (insert s store x .sessions) store (insert s store x .store) slot w
       (record {
         eight = long;
         size = whole-law s store (w .size) .insertion x ∙ sym (w .size);
         others = λ k low d. (let y : Kept s _ store _ k = slots-apart s store k .insertion x d in (y .session, y .words));
       })
-      (omega arith)
+      (longer-on ins (messageIn x ∷ []))
       count-more
       (record {
         placed = ap (λ (z : Session). slotOf (z .«receiving_index»)) inserted-at;
-        named = rw id (omega arith);
-        stands = rw (id, w .unborn n (omega arith)) (inserted-law s store x (w .eight) (w .size) next .stands);
-        granted = ap (λ (i : ℕ). countersOf i g) id ∙ w .ungranted n (omega arith) ∙ none-yet ∙ ap (λ (i : ℕ). upFrom 0 i) (sym (ap (λ (z : Session). z .«sending_key_counter») inserted-at ∙ counter));
+        named = rw (id, one-more) (omega arith);
+        message = ap (λ (i : ℕ). insertionAt then i) id ∙ getD-append-seam ins (messageIn x) [] _ ∙ ap messageIn (sym inserted-at);
+        stands = rw (id, w .unborn (length ins) (omega arith)) (inserted-law s store x (w .eight) (w .size) next .stands);
+        granted = ap (λ (i : ℕ). countersOf i g) id ∙ w .ungranted (length ins) (omega arith) ∙ none-yet
+            ∙ ap (λ (i : ℕ). upFrom 0 i) (sym (ap (λ (z : Session). z .«sending_key_counter») inserted-at ∙ counter));
       })
-      (λ k low d q p. let l : slotAt s k .id < n = w .slots k low q .named in omega (arith, l, p ∙ id))
+      (λ k low d q p. let l : slotAt s k .id < length ins = w .slots k low q .named in omega (arith, l, p ∙ id))
       (λ i d. refl)
       (λ i d. refl)
       (w .runs _)
 
 -- a batch judged
-module _ (n : ℕ) (h : ℕ → List ℕ) (g : List Grant) (s : Sessions) (store : List ℕ) (w : Held n h g s store) (index id now : ℕ)
+module _ (ins : List Insertion) (h : ℕ → List ℕ) (g : List Grant) (s : Sessions) (store : List ℕ) (w : Held ins h g s store) (index id now : ℕ)
     (counters kinds verdicts : List ℕ) (x : Session) (fit : fits counters kinds verdicts ≡ true) (found : receivingSession s index id now ≡ Got x) where
   abbrev call : BatchCall
   call = record { sessions = s; store = store; index = index; id = id; now = now; counters = counters; kinds = kinds; verdicts = verdicts }
@@ -170,12 +178,12 @@ module _ (n : ℕ) (h : ℕ → List ℕ) (g : List Grant) (s : Sessions) (store
   at = slotOf index
 
   filled-at : slotAt s at .filled ≡ true
-  filled-at = ap (λ (z : Session). z .filled) (in-slot .stored) ∙ in-slot .filled
+  filled-at = found-filled ins h g s store w index x in-slot
 
-  own : SlotHeld n h g at x (slotWords store at)
-  own = of-same n h g at (slotWords store at) (slotAt s at) x (in-slot .stored) (w .slots at (omega arith) filled-at)
+  own : SlotHeld ins h g at x (slotWords store at)
+  own = held-found ins h g s store w index x in-slot
 
-  live : LiveBatch call x (h id)
+  live : BatchFor call x (h id)
   live =
       record {
         eight = w .eight;
@@ -202,10 +210,10 @@ module _ (n : ℕ) (h : ℕ → List ℕ) (g : List Grant) (s : Sessions) (store
   size-left = slot-law store _ (slotOf (x .«receiving_index»)) (w .size) (omega arith) .whole ∙ sym (w .size)
 
   module _ (i : ℕ → List ℕ) (mine : i id ≡ recordedAll (h id) counters (batchOf store x counters kinds .verdicts)) (others : (y : ℕ) → (y ≡ id → ⊥) → i y ≡ h y) where
-    pub held-judged : Held n i g (put s left) (storeAfter store x counters kinds)
+    pub held-judged : Held ins i g (put s left) (storeAfter store x counters kinds)
     held-judged =
         let is : slotAt (put s left) at .id ≡ id = ap (λ (z : Session). z .id) left-at ∙ named in
-        held-changed n n h i g g s (put s left) store (storeAfter store x counters kinds) at w
+        held-changed ins ins h i g g s (put s left) store (storeAfter store x counters kinds) at w
         (record {
           eight = changed-put s left store (w .eight) .eight;
           size = size-left;
@@ -213,11 +221,12 @@ module _ (n : ℕ) (h : ℕ → List ℕ) (g : List Grant) (s : Sessions) (store
               let other : k ≡ slotOf (x .«receiving_index») → ⊥ = λ o. d (o ∙ ap slotOf (in-slot .named)) in
               (changed-put s left store (w .eight) .others k low other .0, slot-law store _ (slotOf (x .«receiving_index»)) (w .size) (omega arith) .other k other);
         })
-        (omega arith)
+        (longer-same ins)
         (inserted-same ∙ w .count)
         (record {
           placed = ap (λ (z : Session). slotOf (z .«receiving_index»)) left-at ∙ ap slotOf (in-slot .named);
           named = rw (is, ← named) (own .named);
+          message = ap (λ (i : ℕ). insertionAt ins i) (is ∙ sym named) ∙ own .message ∙ ap messageIn (sym left-at);
           stands = rw (is, mine, ← in-slot .named) (judged-stands call x (h id) live);
           granted = ap (λ (k : ℕ). countersOf k g) (is ∙ sym named) ∙ own .granted
               ∙ ap (λ (k : ℕ). upFrom 0 k) (sym (ap (λ (z : Session). z .«sending_key_counter») left-at));

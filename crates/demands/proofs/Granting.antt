@@ -12,7 +12,7 @@ use Rattle.base.specs.Choice.{choose}
 use Rattle.sessions.specs.Cases.{known-found, known-reserved}
 use Rattle.sessions.proofs.Laws.{lookup-law}
 use Rattle.base.proofs.Choice.{of-choice}
-use Rattle.tunnel.specs.Control.{outcome, done, withSessions, withTimers}
+use Rattle.tunnel.specs.Control.{outOf, done, withSessions, withTimers}
 use Rattle.tunnel.specs.Encapsulate.{beginEncapsulate, finishEncapsulate, grant, send, encrypted, encryptKeepalive}
 use Rattle.tunnel.specs.declared.answer.Answer.the-variants.{No, Granted}
 use Rattle.tunnel.specs.declared.control.Control.{Control}
@@ -24,8 +24,8 @@ use Rattle.demands.proofs.Held.{Changed}
 use Rattle.demands.proofs.Known.{Known, plain-of, Idle, idle-refused}
 use Rattle.sessions.specs.Laws.{InSlot}
 use Rattle.demands.proofs.Moves.{put-at, changed-put}
-use Rattle.demands.specs.Made.{caseAnswer}
-use Rattle.demands.specs.Sending.{Grant, granting}
+use Rattle.demands.specs.Made.{caseAnswer, Insertion}
+use Rattle.demands.specs.Sending.{Grant, granting, PolledKeepalive}
 use Rattle.tunnel.specs.Timers.{tickLastPacketSent}
 use Rattle.sessions.specs.Index.{slotOf}
 use Rattle.sessions.specs.Range.{range}
@@ -48,7 +48,7 @@ unfolding choose
 of-granted true m n x y p = (refl, (cc), (cc))
 of-granted false m n x y p = let z : _≡_ {A = ℕ} 0 1 = cc in absurd (omega arith)
 
-reserved : (x : Session) (len first : ℕ) (y : Session) → reserveCounters x len ≡ First first y → Reserves x len first y
+pub reserved : (x : Session) (len first : ℕ) (y : Session) → reserveCounters x len ≡ First first y → Reserves x len first y
 unfolding reserveCounters
 reserved x len first y e =
     let p : (leb (x .«sending_key_counter» + len) limit ≡ true) × (first ≡ x .«sending_key_counter») × (y ≡ withCounter x (x .«sending_key_counter» + len)) =
@@ -59,8 +59,8 @@ reserved x len first y e =
 pub record Grants (c : Control) (store : List ℕ) (d : Control) (peer first len : ℕ) (x : Session) : Type 0 where
   pub current : currentOf (c .sessions) ≡ Got x
   pub peer-is : x .«sending_index» ≡ peer
-  pub known : (n : ℕ) (h : ℕ → List ℕ) (g k : List Grant) → Known n h g k c store
-      → Known n h (g ++ granting (x .id) peer first len ∷ []) k d store
+  pub known : (ins : List Insertion) (h : ℕ → List ℕ) (g k : List Grant) (polls : List PolledKeepalive) → Known ins h g k polls c store
+      → Known ins h (g ++ granting (x .id) peer first len ∷ []) k polls d store
 
 -- the current session's counter moved on
 module _ (c d : Control) (store : List ℕ) (x : Session) (len : ℕ) (current : currentOf (c .sessions) ≡ Got x)
@@ -78,10 +78,10 @@ module _ (c d : Control) (store : List ℕ) (x : Session) (len : ℕ) (current :
       record {
         current = current;
         peer-is = refl;
-        known = λ n h g k w.
+        known = λ ins h g k polls w.
             (let t : Changed (c .sessions) (d .sessions) store store at × (slotAt (d .sessions) at ≡ y) = there _ refl (w .held .eight) in
             record {
-              held = held-granted n h g (c .sessions) (d .sessions) store (w .held) x y in-slot same (t .0) (t .1) count (rw counted below) (x .«sending_index») len counted;
+              held = held-granted ins h g (c .sessions) (d .sessions) store (w .held) x y in-slot same (t .0) (t .1) count (rw counted below) (x .«sending_index») len counted;
               queue = rw ring (w .queue);
             });
       }
@@ -92,7 +92,7 @@ module _ (c d : Control) (store : List ℕ) (x : Session) (len : ℕ) (current :
   grants-once : d .sessions ≡ put (c .sessions) then → Grants c store d (x .«sending_index») (x .«sending_key_counter») len x
   unfolding put
   grants-once e =
-      grants-at then (record { id = refl; index = refl; next = refl }) refl
+      grants-at then (record { id = refl; index = refl; message = refl; next = refl }) refl
       (λ n p q. rw e (changed-put (c .sessions) then store (p ∙ q), put-at (c .sessions) then store (p ∙ q))) (ap (λ (s : Sessions). s .inserted) e)
 
   abbrev prepared : Session
@@ -102,7 +102,7 @@ module _ (c d : Control) (store : List ℕ) (x : Session) (len : ℕ) (current :
       → Grants c store d (x .«sending_index») (x .«sending_key_counter») len x
   unfolding put preparePacketData
   grants-prepared e =
-      grants-at (withCounter prepared (x .«sending_key_counter» + len)) (record { id = refl; index = refl; next = refl }) refl
+      grants-at (withCounter prepared (x .«sending_key_counter» + len)) (record { id = refl; index = refl; message = refl; next = refl }) refl
       (λ n p q.
       (let a : Changed (c .sessions) (put (c .sessions) prepared) store store at = changed-put (c .sessions) prepared store (p ∙ q) in
       rw e (
@@ -129,7 +129,7 @@ module _ (c : Control) (store : List ℕ) (now : ℕ) where
   encrypts =
       known-found (λ (e : Encrypted). Encrypts c store e) (sendingSession (c .sessions) now) _ _ (skips refl refl)
       (λ x p. known-reserved (λ (e : Encrypted). Encrypts c store e) (reserveCounters x 1) _ _ (skips refl refl)
-      (λ first y q. sends-counted x y first (lookup-law (c .sessions) .sending now x p) (reserved x 1 first y q)))
+      (λ first y q. sends-counted x y first (lookup-law (c .sessions) .sending now x p .0) (reserved x 1 first y q)))
 
 -- a send that grants nothing, or a range of the current session
 pub data Sends (c : Control) (store : List ℕ) (out : Out) : Type 0 where
@@ -140,14 +140,14 @@ module _ (c : Control) (store : List ℕ) (x : Session) (count now : ℕ) (curre
   abbrev begun : Control
   begun = beginEncapsulate c (preparePacketData x) now
 
-  marked : Idle c store (outcome begun (No 12) true false) store
+  marked : Idle c store (outOf begun (No 12) true false) store
   unfolding beginEncapsulate put preparePacketData caseAnswer
   marked =
       record {
-        known = λ n h g k w.
+        known = λ ins h g k polls w.
             record {
-              held = held-marked n h g (c .sessions) _ store (w .held) x (preparePacketData x) (lookup-law (c .sessions) .current x current)
-                  (record { id = refl; index = refl; next = refl }) (changed-put (c .sessions) (preparePacketData x) store (w .held .eight))
+              held = held-marked ins h g (c .sessions) _ store (w .held) x (preparePacketData x) (lookup-law (c .sessions) .current x current)
+                  (record { id = refl; index = refl; message = refl; next = refl }) (changed-put (c .sessions) (preparePacketData x) store (w .held .eight))
                   (put-at (c .sessions) (preparePacketData x) store (w .held .eight)) refl refl;
               queue = w .queue;
             };
@@ -172,4 +172,4 @@ unfolding send
 sends-some c store count now =
     of-choice (λ (o : Out). Sends c store o) _ _ _ (none (idle-refused c store 11))
     (known-found (λ (o : Out). Sends c store o) (sendingSession (c .sessions) now) _ _ (none (idle-refused c store 12))
-    (λ x p. sends-grant c store x count now (lookup-law (c .sessions) .sending now x p)))
+    (λ x p. sends-grant c store x count now (lookup-law (c .sessions) .sending now x p .0)))

@@ -2,18 +2,21 @@
 -- told apart by id.
 -- Assumes nothing.
 use mathlib.Core.Path.{_≡_, refl, ap, sym, _∙_}
-use mathlib.Core.Bool.{true}
+use mathlib.Core.Bool.{true, false}
 use mathlib.Core.List.{List, [], _∷_, _++_, append-assoc, append-nil}
 use Prim.Native.Nat.{ℕ, _+_, _≤_, _<_}
 use native.Mathlib.Decide.{ℕ-discrete}
 use native.Mathlib.Omega.{arith}
 use lib.Dec.{eqb}
-use lib.ListN.{length}
+use lib.ListN.{length, getD, length-append, List·getD-append}
 use borrow.Author.Tests.{eq-eqb, ne-eqb}
 use Rattle.base.specs.Choice.{choose}
 use Rattle.base.specs.Lists.{upFrom}
+use Rattle.demands.specs.Made.{Insertion, insertion}
 use Rattle.demands.specs.Sending.{Grant, granting, countersOf}
+use Rattle.sessions.specs.Cases.{caseRole}
 use Rattle.sessions.specs.Index.{slotOf}
+use Rattle.sessions.specs.Laws.{InSlot}
 use Rattle.sessions.specs.Sessions.{slotAt}
 use Rattle.sessions.specs.Store.{slotWords}
 use Rattle.sessions.specs.declared.session.Session.{Session}
@@ -26,8 +29,8 @@ pub counters-on : (id : ℕ) (g h : List Grant) → countersOf id (g ++ h) ≡ c
 unfolding countersOf
 counters-on id [] h = refl
 counters-on id (x ∷ g) h =
-    ap (λ (l : List ℕ). choose (eqb (x .id) id) (upFrom (x .first) (x .length)) [] ++ l) (counters-on id g h)
-    ∙ sym (append-assoc (choose (eqb (x .id) id) (upFrom (x .first) (x .length)) []) (countersOf id g) (countersOf id h))
+    ap (λ (l : List ℕ). choose (eqb (x .id) id) (upFrom (x .first) (x .len)) [] ++ l) (counters-on id g h)
+    ∙ sym (append-assoc (choose (eqb (x .id) id) (upFrom (x .first) (x .len)) []) (countersOf id g) (countersOf id h))
 
 pub counters-own : (id peer first n : ℕ) → countersOf id (granting id peer first n ∷ []) ≡ upFrom first n
 unfolding countersOf choose
@@ -43,23 +46,56 @@ pub record Runs (counters : List ℕ) : Type 0 where
   pub are : counters ≡ upFrom 0 count
   pub below : count ≤ limit
 
--- a filled slot's record and words, with the histories and the grants of all sessions
-pub record SlotHeld (n : ℕ) (h : ℕ → List ℕ) (g : List Grant) (slot : ℕ) (x : Session) (words : List ℕ) : Type 0 where
+-- the handshake message that a session's record tells of
+abbrev pub messageIn : Session → Insertion
+messageIn x = insertion (caseRole (x .role) true false) (x .«sending_index») (x .«established_at»)
+
+-- the insertion of an id
+abbrev pub insertionAt : List Insertion → ℕ → Insertion
+insertionAt ins id = getD ins id (insertion false 0 0)
+
+-- insertions that begin with others
+pub record Longer (ins more : List Insertion) : Type 0 where
+  pub long : length ins ≤ length more
+  pub same : (id : ℕ) → id < length ins → insertionAt more id ≡ insertionAt ins id
+
+pub longer-same : (ins : List Insertion) → Longer ins ins
+longer-same ins = record { long = omega arith; same = λ id l. refl }
+
+pub longer-on : (ins more : List Insertion) → Longer ins (ins ++ more)
+longer-on ins more = record { long = rw (length-append ins more) (omega arith); same = λ id l. List·getD-append ins more _ id l }
+
+-- a filled slot's record and words, with the insertions, the histories and the grants of all sessions
+pub record SlotHeld (ins : List Insertion) (h : ℕ → List ℕ) (g : List Grant) (slot : ℕ) (x : Session) (words : List ℕ) : Type 0 where
   pub placed : slotOf (x .«receiving_index») ≡ slot
-  pub named : x .id < n
+  pub named : x .id < length ins
+  pub message : insertionAt ins (x .id) ≡ messageIn x
   pub stands : Represents (h (x .id)) words (x .next)
   pub granted : countersOf (x .id) g ≡ upFrom 0 (x .«sending_key_counter»)
 
--- sessions and a store after n insertions
-pub record Held (n : ℕ) (h : ℕ → List ℕ) (g : List Grant) (s : Sessions) (store : List ℕ) : Type 0 where
+-- sessions and a store after insertions
+pub record Held (ins : List Insertion) (h : ℕ → List ℕ) (g : List Grant) (s : Sessions) (store : List ℕ) : Type 0 where
   pub eight : length (s .slots) ≡ 8
   pub size : length store ≡ 1024
-  pub count : s .inserted ≡ n
-  pub slots : (k : ℕ) → k < 8 → slotAt s k .filled ≡ true → SlotHeld n h g k (slotAt s k) (slotWords store k)
+  pub count : s .inserted ≡ length ins
+  pub slots : (k : ℕ) → k < 8 → slotAt s k .filled ≡ true → SlotHeld ins h g k (slotAt s k) (slotWords store k)
   pub apart : (j k : ℕ) → j < 8 → k < 8 → slotAt s j .filled ≡ true → slotAt s k .filled ≡ true → slotAt s j .id ≡ slotAt s k .id → j ≡ k
-  pub unborn : (id : ℕ) → n ≤ id → h id ≡ []
-  pub ungranted : (id : ℕ) → n ≤ id → countersOf id g ≡ []
+  pub unborn : (id : ℕ) → length ins ≤ id → h id ≡ []
+  pub ungranted : (id : ℕ) → length ins ≤ id → countersOf id g ≡ []
   pub runs : (id : ℕ) → Runs (countersOf id g)
+
+-- what is known of a session that is found in its slot
+module _ (ins : List Insertion) (h : ℕ → List ℕ) (g : List Grant) (s : Sessions) (store : List ℕ) (w : Held ins h g s store) (index : ℕ) (x : Session)
+    (found : InSlot s index x) where
+  pub found-filled : slotAt s (slotOf index) .filled ≡ true
+  found-filled = ap (λ (z : Session). z .filled) (found .stored) ∙ found .filled
+
+  same-record : (z : Session) → z ≡ x → SlotHeld ins h g (slotOf index) z (slotWords store (slotOf index))
+      → SlotHeld ins h g (slotOf index) x (slotWords store (slotOf index))
+  same-record z e o = rw (← e) o
+
+  pub held-found : SlotHeld ins h g (slotOf index) x (slotWords store (slotOf index))
+  held-found = same-record (slotAt s (slotOf index)) (found .stored) (w .slots (slotOf index) (omega arith) found-filled)
 
 -- sessions and a store of which every slot that is filled then was so before
 pub record Carried (s last : Sessions) (store left : List ℕ) : Type 0 where
@@ -84,11 +120,11 @@ carried-on s t u store mid left a b =
           (p .0 ∙ q .0, p .1 ∙ q .1);
     }
 
-module _ (n : ℕ) (h : ℕ → List ℕ) (g : List Grant) (s last : Sessions) (store left : List ℕ) (w : Held n h g s store) where
+module _ (ins : List Insertion) (h : ℕ → List ℕ) (g : List Grant) (s last : Sessions) (store left : List ℕ) (w : Held ins h g s store) where
   was-filled : (k : ℕ) → (slotAt last k ≡ slotAt s k) × (slotWords left k ≡ slotWords store k) → slotAt last k .filled ≡ true → slotAt s k .filled ≡ true
   was-filled k p f = ap (λ (x : Session). x .filled) (sym (p .0)) ∙ f
 
-  pub held-carried : Carried s last store left → Held n h g last left
+  pub held-carried : Carried s last store left → Held ins h g last left
   held-carried c =
       record {
         eight = c .eight ∙ w .eight;
@@ -114,30 +150,31 @@ pub record Changed (s last : Sessions) (store left : List ℕ) (slot : ℕ) : Ty
   pub others : (k : ℕ) → k < 8 → (k ≡ slot → ⊥) → (slotAt last k ≡ slotAt s k) × (slotWords left k ≡ slotWords store k)
 
 -- one slot changed: what is to be known of it and of its session
-module _ (n m : ℕ) (h i : ℕ → List ℕ) (g f : List Grant) (s last : Sessions) (store left : List ℕ) (j : ℕ) (w : Held n h g s store)
+module _ (ins then : List Insertion) (h i : ℕ → List ℕ) (g f : List Grant) (s last : Sessions) (store left : List ℕ) (j : ℕ) (w : Held ins h g s store)
     (c : Changed s last store left j) where
   abbrev id : ℕ
   id = slotAt last j .id
 
-  module _ (more : n ≤ m) (count : last .inserted ≡ m) (mine : SlotHeld m i f j (slotAt last j) (slotWords left j))
+  module _ (more : Longer ins then) (count : last .inserted ≡ length then) (mine : SlotHeld then i f j (slotAt last j) (slotWords left j))
       (distinct : (k : ℕ) → k < 8 → (k ≡ j → ⊥) → slotAt s k .filled ≡ true → slotAt s k .id ≡ id → ⊥)
       (histories : (x : ℕ) → (x ≡ id → ⊥) → i x ≡ h x) (grants : (x : ℕ) → (x ≡ id → ⊥) → countersOf x f ≡ countersOf x g)
       (run : Runs (countersOf id f)) where
-    other-slot : (k : ℕ) → k < 8 → (k ≡ j → ⊥) → slotAt last k .filled ≡ true → SlotHeld m i f k (slotAt last k) (slotWords left k)
+    other-slot : (k : ℕ) → k < 8 → (k ≡ j → ⊥) → slotAt last k .filled ≡ true → SlotHeld then i f k (slotAt last k) (slotWords left k)
     other-slot k low d e =
         let p : (slotAt last k ≡ slotAt s k) × (slotWords left k ≡ slotWords store k) = c .others k low d in
         let e' : slotAt s k .filled ≡ true = ap (λ (x : Session). x .filled) (sym (p .0)) ∙ e in
-        let y : SlotHeld n h g k (slotAt s k) (slotWords store k) = w .slots k low e' in
+        let y : SlotHeld ins h g k (slotAt s k) (slotWords store k) = w .slots k low e' in
         let z : slotAt s k .id ≡ id → ⊥ = distinct k low d e' in
         rw (p .0, p .1)
         (record {
           placed = y .placed;
-          named = omega (arith, y .named);
+          named = omega (arith, y .named, more .long);
+          message = more .same (slotAt s k .id) (y .named) ∙ y .message;
           stands = rw (histories (slotAt s k .id) z) (y .stands);
           granted = grants (slotAt s k .id) z ∙ y .granted;
         })
 
-    each-slot : (k : ℕ) → k < 8 → slotAt last k .filled ≡ true → SlotHeld m i f k (slotAt last k) (slotWords left k)
+    each-slot : (k : ℕ) → k < 8 → slotAt last k .filled ≡ true → SlotHeld then i f k (slotAt last k) (slotWords left k)
     each-slot k low e = elim (ℕ-discrete k j) [
       | yes q ↦ rw q mine
       | no q ↦ other-slot k low q e
@@ -176,10 +213,10 @@ module _ (n m : ℕ) (h i : ℕ → List ℕ) (g f : List Grant) (s last : Sessi
       | no q ↦ rw (grants x q) (w .runs x)
     ]
 
-    above : (x : ℕ) → m ≤ x → x ≡ id → ⊥
+    above : (x : ℕ) → length then ≤ x → x ≡ id → ⊥
     above x l q = omega (arith, q, mine .named)
 
-    pub held-changed : Held m i f last left
+    pub held-changed : Held then i f last left
     held-changed =
         record {
           eight = c .eight ∙ w .eight;
@@ -187,7 +224,7 @@ module _ (n m : ℕ) (h i : ℕ → List ℕ) (g f : List Grant) (s last : Sessi
           count = count;
           slots = each-slot;
           apart = each-apart;
-          unborn = λ x l. histories x (above x l) ∙ w .unborn x (omega arith);
-          ungranted = λ x l. grants x (above x l) ∙ w .ungranted x (omega arith);
+          unborn = λ x l. histories x (above x l) ∙ w .unborn x (omega (arith, l, more .long));
+          ungranted = λ x l. grants x (above x l) ∙ w .ungranted x (omega (arith, l, more .long));
           runs = each-run;
         }

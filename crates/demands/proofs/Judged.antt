@@ -22,7 +22,7 @@ use Rattle.base.specs.Lists.{zeros}
 use Rattle.sessions.specs.Session.{emptySession, withId, withReceivedData, withNext}
 use Rattle.sessions.specs.Cases.{caseFound}
 use Rattle.sessions.specs.Sessions.{slotAt, put, inserting, insert}
-use Rattle.demands.specs.History.{verdictOn, recorded, recordedAll, verdictsOn, Stands, VerdictLaw, BatchLaw, InsertedLaw, CountLaw, BatchCall, LiveBatch}
+use Rattle.demands.specs.History.{verdictOn, recorded, recordedAll, verdictsOn, Stands, VerdictLaw, BatchLaw, InsertedLaw, CountLaw, BatchCall, BatchFor}
 use Rattle.sessions.proofs.Laws.{lookup-law, slot-law}
 use Rattle.sessions.specs.Laws.{InSlot}
 use Rattle.sessions.specs.Batch.{Batched, fits, receivingSession, finishReceivePacketData, finishAll, receive}
@@ -126,7 +126,7 @@ put-stands history s last store words k x n l low e r =
     rw (there, same) r
 
 -- the whole call
-module _ (c : BatchCall) (x : Session) (history : List ℕ) (live : LiveBatch c x history) where
+module _ (c : BatchCall) (x : Session) (history : List ℕ) (live : BatchFor c x history) where
   its : InSlot (c .sessions) (c .index) x
   its = lookup-law (c .sessions) .receiving (c .index) (c .id) (c .now) x (live .found) .0
 
@@ -151,7 +151,7 @@ module _ (c : BatchCall) (x : Session) (history : List ℕ) (live : LiveBatch c 
       record {
         session = sessionAfter (c .store) x (c .counters) (c .kinds);
         progress = batchOf (c .store) x (c .counters) (c .kinds) .out;
-        judged = rw goes;
+        received = rw goes;
         judges = rw goes given;
         stands = rw (goes, ← its .named) judged-stands;
       }

@@ -17,7 +17,8 @@ use Rattle.tunnel.specs.declared.control.Out.{Out}
 use Rattle.demands.proofs.Changes.{held-judged}
 use Rattle.demands.proofs.Known.{Known, Idle, idle-refused, known-carried, known-confirmed}
 use Rattle.demands.proofs.Moves.{carried-current}
-use Rattle.demands.specs.Sending.{Grant}
+use Rattle.demands.specs.Made.{Insertion}
+use Rattle.demands.specs.Sending.{Grant, PolledKeepalive}
 use Rattle.sessions.specs.Batch.{untouched, fits, receivingSession, receive, Batched}
 use Rattle.demands.specs.History.{recordedAll}
 use Rattle.sessions.specs.Cases.{caseFound, caseReceived}
@@ -32,21 +33,22 @@ use Rattle.sessions.specs.declared.sessions.Found.{Found}
 use Rattle.demands.proofs.Judged.{receive-judged}
 
 -- the session of a judged batch stored and, where a message was accepted, selected
-known-accept : (n : ℕ) (h : ℕ → List ℕ) (g k : List Grant) (c : Control) (store : List ℕ) (x : Session) (p : Progress) (index now : ℕ)
-    → Known n h g k (withSessions c (put (c .sessions) x)) store → Known n h g k (accept c x p index now) store
+known-accept : (ins : List Insertion) (h : ℕ → List ℕ) (g k : List Grant) (polls : List PolledKeepalive) (c : Control) (store : List ℕ) (x : Session) (p : Progress) (index now : ℕ)
+    → Known ins h g k polls (withSessions c (put (c .sessions) x)) store → Known ins h g k polls (accept c x p index now) store
 unfolding accept
-known-accept n h g k c store x p index now w =
-    of-choice (λ (d : Control). Known n h g k d store) _ _ _
-    (known-confirmed n h g k _ _ now store
-    (known-carried n h g k (withSessions c (put (c .sessions) x)) _ store store (carried-current (put (c .sessions) x) store index) refl w))
+known-accept ins h g k polls c store x p index now w =
+    of-choice (λ (d : Control). Known ins h g k polls d store) _ _ _
+    (known-confirmed ins h g k polls _ _ now store
+    (known-carried ins h g k polls (withSessions c (put (c .sessions) x)) _ store store (carried-current (put (c .sessions) x) store index) refl w))
     w
 
 -- what a batch does: turned down, or judged
 pub data Judged (c : Control) (store : List ℕ) (id : ℕ) (counters : List ℕ) (b : Batched Out) : Type 0 where
   turned : (number : ℕ) → b .out .answer ≡ No number → (number ≡ 0 → ⊥) → Idle c store (b .out) (b .store) → Judged c store id counters b
   taken : b .out .answer ≡ Done
-      → ((n : ℕ) (h i : ℕ → List ℕ) (g k : List Grant) → Known n h g k c store → i id ≡ recordedAll (h id) counters (b .verdicts)
-      → ((y : ℕ) → (y ≡ id → ⊥) → i y ≡ h y) → Known n i g k (b .out .control) (b .store))
+      → ((ins : List Insertion) (h i : ℕ → List ℕ) (g k : List Grant) (polls : List PolledKeepalive) → Known ins h g k polls c store
+      → i id ≡ recordedAll (h id) counters (b .verdicts)
+      → ((y : ℕ) → (y ≡ id → ⊥) → i y ≡ h y) → Known ins i g k polls (b .out .control) (b .store))
       → Judged c store id counters b
 
 module _ (c : Control) (store : List ℕ) (index id now : ℕ) (counters kinds verdicts : List ℕ) where
@@ -69,10 +71,10 @@ module _ (c : Control) (store : List ℕ) (index id now : ℕ) (counters kinds v
   judged x size fit found =
       rw (receive-judged (c .sessions) store index id now counters kinds verdicts x size fit found)
       (taken refl
-      (λ n h i g k w mine others.
-      known-accept n i g k c _ _ _ index now
+      (λ ins h i g k polls w mine others.
+      known-accept ins i g k polls c _ _ _ index now
       (record {
-        held = held-judged n h g (c .sessions) store (w .held) index id now counters kinds verdicts x fit found i mine others;
+        held = held-judged ins h g (c .sessions) store (w .held) index id now counters kinds verdicts x fit found i mine others;
         queue = w .queue;
       })))
 

@@ -2,7 +2,9 @@ pub mod Admits
 pub mod After
 pub mod BatchExample
 pub mod Changes
+pub mod Created
 pub mod Example
+pub mod Gated
 pub mod Granting
 pub mod Grown
 pub mod Held
@@ -12,9 +14,11 @@ pub mod Judging
 pub mod Known
 pub mod Missing
 pub mod Moves
+pub mod Peers
 pub mod Queued
 pub mod Ran
 pub mod Receiving
+pub mod Sendable
 pub mod Sending
 pub mod Settings
 pub mod Stepped

@@ -1,7 +1,8 @@
--- The keepalives in the ring were granted, and the event put last into the ring is the one that was pushed.
+-- The keepalives that were polled and those still in the ring are taken from the wakings' grants, in order; and the event put last into the ring is
+-- the one that was pushed.
 -- Assumes nothing.
 use mathlib.Core.Path.{_≡_, refl, ap, sym, _∙_}
-use mathlib.Core.List.{List, [], _∷_, _++_}
+use mathlib.Core.List.{List, [], _∷_, _++_, append-assoc, append-nil}
 use Prim.Native.Nat.{ℕ, zero, suc, _+_, _-_, _%_, _<_}
 use native.Mathlib.Decide.{ℕ-discrete}
 use native.Mathlib.Omega.{arith}
@@ -9,77 +10,119 @@ use lib.ListN.{length, drop}
 use lib.Seq.{getD-set-same}
 use borrow.Author.Tests.{eq-eqb, ne-eqb}
 use Rattle.base.specs.Choice.{choose}
-use Rattle.demands.specs.Sending.Among.{here, there}
-use Rattle.demands.specs.Sending.{Grant, Among, still, putLast}
+use Rattle.demands.specs.Sending.TakenFrom.{none, passed, taken}
+use Rattle.demands.specs.Sending.{Grant, granting, still, putLast, PolledKeepalive, polling, polledBy, TakenFrom}
+use Rattle.demands.specs.Made.{caseAnswer}
 use Rattle.tunnel.proofs.Laws.{queue-law}
+use Rattle.tunnel.specs.Cases.{caseEvent}
 use Rattle.tunnel.specs.RingBuffer.{holding, placeOf, eventAt, newRing, storeAt, pushBack, popFront, queued, newest, oldest, Ring}
+use Rattle.tunnel.specs.declared.answer.Answer.the-variants.{Polled}
 use Rattle.tunnel.specs.declared.event.Event.the-variants.{Empty, SendKeepalive}
 use Rattle.tunnel.specs.declared.event.Event.{Event}
 use Rattle.tunnel.specs.declared.ring_buffer.RingBuffer.{RingBuffer}
 use Rattle.tunnel.specs.declared.ring_buffer.Slot.{Slot}
 
--- an event, if it is a keepalive, was granted
-abbrev pub EventGranted : List Grant → Event → Type 0
-EventGranted grants event = (peer counter : ℕ) → event ≡ SendKeepalive peer counter → Among peer counter grants
+-- the keepalive of an event
+abbrev pub keepaliveIn : Event → List PolledKeepalive
+keepaliveIn event = polledBy (Polled event)
 
--- every keepalive of a list was granted
-pub data AllGranted (grants : List Grant) : List Event → Type 0 where
-  none : AllGranted grants []
-  more : {event : Event} {events : List Event} → EventGranted grants event → AllGranted grants events → AllGranted grants (event ∷ events)
+-- the keepalives of events
+unfoldable pub keepalivesIn : List Event → List PolledKeepalive
+keepalivesIn [] = []
+keepalivesIn (event ∷ events) = keepaliveIn event ++ keepalivesIn events
 
--- a ring whose keepalives were granted
-pub record Queue (grants : List Grant) (r : RingBuffer) : Type 0 where
+keepalives-more : (events : List Event) (e : Event) → keepalivesIn (events ++ e ∷ []) ≡ keepalivesIn events ++ keepaliveIn e
+unfolding keepalivesIn
+keepalives-more [] e = append-nil (keepaliveIn e)
+keepalives-more (x ∷ events) e =
+    ap (λ (l : List PolledKeepalive). keepaliveIn x ++ l) (keepalives-more events e) ∙ sym (append-assoc (keepaliveIn x) (keepalivesIn events) (keepaliveIn e))
+
+-- the oldest event's, and those of the others
+keepalives-first : (events : List Event) → keepaliveIn (oldest events) ++ keepalivesIn (drop 1 events) ≡ keepalivesIn events
+unfolding keepalivesIn oldest polledBy caseAnswer caseEvent
+keepalives-first [] = refl
+keepalives-first (e ∷ events) = refl
+
+-- fewer keepalives are taken where more are
+taken-less : (before later : List PolledKeepalive) (x : PolledKeepalive) (k : List Grant) → TakenFrom (before ++ x ∷ later) k → TakenFrom (before ++ later) k
+taken-less [] later x (grant ∷ k) (passed t) = passed (taken-less [] later x k t)
+taken-less [] later x (grant ∷ k) (taken t) = passed t
+taken-less (y ∷ before) later x (grant ∷ k) (passed t) = passed (taken-less (y ∷ before) later x k t)
+taken-less (y ∷ before) later x (grant ∷ k) (taken t) = taken (taken-less before later x k t)
+
+taken-fewer : (before between later : List PolledKeepalive) (k : List Grant) → TakenFrom (before ++ (between ++ later)) k → TakenFrom (before ++ later) k
+taken-fewer before [] later k t = t
+taken-fewer before (x ∷ between) later k t = taken-fewer before between later k (taken-less before (between ++ later) x k t)
+
+taken-drop : (polls : List PolledKeepalive) (k : List Grant) (n : ℕ) (events : List Event) → TakenFrom (polls ++ keepalivesIn events) k
+    → TakenFrom (polls ++ keepalivesIn (drop n events)) k
+unfolding keepalivesIn
+taken-drop polls k zero events t = t
+taken-drop polls k (suc n) [] t = t
+taken-drop polls k (suc n) (e ∷ events) t = taken-drop polls k n events (taken-fewer polls (keepaliveIn e) (keepalivesIn events) k t)
+
+-- a keepalive and its grant added
+taken-more : {l : List PolledKeepalive} {k : List Grant} (id peer counter : ℕ) → TakenFrom l k
+    → TakenFrom (l ++ polling peer counter ∷ []) (k ++ granting id peer counter 1 ∷ [])
+taken-more id peer counter none = taken none
+taken-more id peer counter (passed t) = passed (taken-more id peer counter t)
+taken-more id peer counter (taken t) = taken (taken-more id peer counter t)
+
+-- a ring whose keepalives, after those polled, are taken from these grants
+pub record Queue (k : List Grant) (polls : List PolledKeepalive) (r : RingBuffer) : Type 0 where
   pub ring : Ring r
-  pub all : AllGranted grants (queued r)
+  pub all : TakenFrom (polls ++ keepalivesIn (queued r)) k
 
--- what was granted stays so
-among-later : (peer counter : ℕ) (g h : List Grant) → Among peer counter g → Among peer counter (g ++ h)
-among-later peer counter (x ∷ g) h here = here
-among-later peer counter (x ∷ g) h (there a) = there (among-later peer counter g h a)
+pub queue-new : Queue [] [] newRing
+unfolding keepalivesIn
+queue-new = record { ring = queue-law .fresh; all = rw (queue-law .begun) none }
 
-pub among-last : (peer counter id : ℕ) (g : List Grant) → Among peer counter (g ++ record { id = id; peer = peer; first = counter; length = 1 } ∷ [])
-among-last peer counter id [] = here
-among-last peer counter id (x ∷ g) = there (among-last peer counter id g)
+module _ (k : List Grant) (polls : List PolledKeepalive) (r : RingBuffer) (q : Queue k polls r) where
+  -- the keepalives polled alone
+  pub queue-polls : TakenFrom polls k
+  queue-polls =
+      let rest : List PolledKeepalive = keepalivesIn (queued r) in
+      let t : TakenFrom (polls ++ (rest ++ [])) k = rw (append-nil rest) (q .all) in
+      let u : TakenFrom (polls ++ []) k = taken-fewer polls rest [] k t in
+      rw (append-nil polls) at u
 
-all-later : (g h : List Grant) (events : List Event) → AllGranted g events → AllGranted (g ++ h) events
-all-later g h [] none = none
-all-later g h (e ∷ events) (more a b) = more (λ p c q. among-later p c g h (a p c q)) (all-later g h events b)
+  -- an event pushed, with these grants
+  pushed-with : (grants : List Grant) (e : Event) → TakenFrom (polls ++ (keepalivesIn (queued r) ++ keepaliveIn e)) grants → Queue grants polls (pushBack r e)
+  unfolding newest
+  pushed-with grants e t =
+      let u : TakenFrom (polls ++ keepalivesIn (queued r ++ e ∷ [])) grants = rw (keepalives-more (queued r) e) t in
+      record {
+        ring = queue-law .still r e (q .ring);
+        all = rw (queue-law .pushed r e (q .ring)) (taken-drop polls grants (length (queued r ++ e ∷ []) - 16) (queued r ++ e ∷ []) u);
+      }
 
-pub queue-later : (g h : List Grant) (r : RingBuffer) → Queue g r → Queue (g ++ h) r
-queue-later g h r q = record { ring = q .ring; all = all-later g h (queued r) (q .all) }
+  -- one that is no keepalive, and one that is, with its grant
+  pub queue-push : (e : Event) → keepaliveIn e ≡ [] → Queue k polls (pushBack r e)
+  queue-push e p = pushed-with k e (rw (p, append-nil (keepalivesIn (queued r))) (q .all))
 
-module _ (g : List Grant) where
-  all-more : (events : List Event) (e : Event) → AllGranted g events → EventGranted g e → AllGranted g (events ++ e ∷ [])
-  all-more [] e none b = more b none
-  all-more (x ∷ events) e (more a c) b = more a (all-more events e c b)
+  keepalive-of : (peer counter : ℕ) → keepaliveIn (SendKeepalive peer counter) ≡ polling peer counter ∷ []
+  unfolding polledBy caseAnswer caseEvent
+  keepalive-of peer counter = refl
 
-  all-drop : (n : ℕ) (events : List Event) → AllGranted g events → AllGranted g (drop n events)
-  all-drop zero events a = a
-  all-drop (suc n) [] a = a
-  all-drop (suc n) (e ∷ events) (more a b) = all-drop n events b
+  pub queue-granted : (id peer counter : ℕ) → Queue (k ++ granting id peer counter 1 ∷ []) polls (pushBack r (SendKeepalive peer counter))
+  queue-granted id peer counter =
+      let rest : List PolledKeepalive = keepalivesIn (queued r) in
+      pushed-with _ _
+      (rw (keepalive-of peer counter, ← append-assoc polls rest (polling peer counter ∷ [])) (taken-more id peer counter (q .all)))
 
-  pub queue-new : Queue g newRing
-  queue-new = record { ring = queue-law .fresh; all = rw (queue-law .begun) none }
-
-  module _ (r : RingBuffer) (q : Queue g r) where
-    pub queue-push : (e : Event) → EventGranted g e → Queue g (pushBack r e)
-    unfolding newest
-    queue-push e a =
-        record {
-          ring = queue-law .still r e (q .ring);
-          all = rw (queue-law .pushed r e (q .ring)) (all-drop (length (queued r ++ e ∷ []) - 16) (queued r ++ e ∷ []) (all-more (queued r) e (q .all) a));
-        }
-
-    pub queue-pop : Queue g (popFront r .events)
-    queue-pop = record { ring = queue-law .stays r (q .ring); all = rw (queue-law .left r (q .ring)) (all-drop 1 _ (q .all)) }
-
-    oldest-granted : (events : List Event) → AllGranted g events → EventGranted g (oldest events)
-    unfolding oldest
-    oldest-granted [] none p c e = let z : _≡_ {A = ℕ} 0 1 = cc in absurd (omega arith)
-    oldest-granted (x ∷ events) (more a b) p c e = a p c e
-
-    pub queue-polled : EventGranted g (popFront r .event)
-    queue-polled p c e = oldest-granted (queued r) (q .all) p c (sym (queue-law .answered r (q .ring)) ∙ e)
+  -- the oldest event polled
+  pub queue-pop : Queue k (polls ++ keepaliveIn (popFront r .event)) (popFront r .events)
+  queue-pop =
+      record {
+        ring = queue-law .stays r (q .ring);
+        all =
+            rw (
+              queue-law .left r (q .ring),
+              queue-law .answered r (q .ring),
+              append-assoc polls (keepaliveIn (oldest (queued r))) (keepalivesIn (drop 1 (queued r))),
+              keepalives-first (queued r),
+            ) (q .all);
+      }
 
 -- nothing was put
 pub put-none : (r last : RingBuffer) → last ≡ r → putLast r last ≡ Empty

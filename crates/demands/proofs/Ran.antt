@@ -1,8 +1,8 @@
--- The Rust's state after a call is that of the tunnel, where number 14 lets the tunnel through.
+-- The Rust's state after a call is that of the tunnel, where number 14 lets the tunnel through; and so after every list of calls from a creation.
 -- Assumes nothing.
 use mathlib.Core.Path.{_≡_, refl, ap, sym, _∙_}
 use mathlib.Core.Bool.{Bool, true, false}
-use mathlib.Core.List.{List}
+use mathlib.Core.List.{List, [], _∷_}
 use Prim.Native.Nat.{ℕ}
 use lib.Dec.{ltb}
 use Rattle.base.specs.Choice.{choose}
@@ -10,13 +10,17 @@ use Rattle.sessions.specs.Cases.{of-missing}
 use Rattle.base.proofs.Choice.{of-choice}
 use Rattle.tunnel.specs.Control.{refuse, pollEvent, missingReport}
 use Rattle.tunnel.specs.declared.control.Out.{Out}
+use Rattle.demands.proofs.Created.{good-made}
+use Rattle.demands.proofs.Grown.{sound-step, sound-created}
 use Rattle.demands.proofs.Twins.{deadline-still}
 use Rattle.demands.specs.Calls.Call.{start, restart, send, receive, look, initiation, response, cookie, timeout, event, deadline, missing}
-use Rattle.demands.specs.Calls.{Call, World, step}
-use Rattle.demands.specs.Wakings.{Ran, took, ran}
+use Rattle.demands.specs.Calls.{Call, World, step, after, Creation, created, Good}
+use Rattle.demands.specs.Wakings.{Ran, took, ran, ranNew, ranAfter}
 use Rattle.sessions.specs.Session.{timeLimit}
+use Rattle.base.specs.Lists.{zeros}
 use Rattle.tunnel.specs.Damage.{undamaged}
-use Rattle.tunnel.specs.Tunnel.{gate, timelessGate, refused, settled, timed, timeless, kept, timedTurn, timedBatch, callStart, callRestart, callSend, callReceive, callLook, callInitiation, callResponse, callCookie, callTimeout, callEvent, callMissing}
+use Rattle.tunnel.specs.Sound.{Sound}
+use Rattle.tunnel.specs.Tunnel.{newTunnel, gate, timelessGate, refused, settled, timed, timeless, kept, timedTurn, timedBatch, callStart, callRestart, callSend, callReceive, callLook, callInitiation, callResponse, callCookie, callTimeout, callEvent, callMissing}
 use Rattle.tunnel.specs.declared.tunnel.Answered.{Answered}
 use Rattle.tunnel.specs.declared.tunnel.Tunnel.{Tunnel}
 
@@ -82,3 +86,22 @@ ran-step w (timeout jitter now) u = took-is (w .tunnel) (w .store) u _ now _ _
 ran-step w event u = event-is (w .tunnel) (w .store) u
 ran-step w deadline u = ap (λ (t : Tunnel). ranOf t (w .store)) (sym (deadline-still (w .tunnel) u))
 ran-step w (missing index) u = stays-timeless (w .tunnel) (w .store) u _ _ (missing-stays (w .tunnel) (w .store) u index)
+
+-- the Rust at a creation, and after a list of calls from it
+made-ran : (c : Creation) → ranNew c ≡ ranOf (newTunnel (c .index) (c .keepalive) (c .now)) (zeros 1024)
+unfolding newTunnel
+made-ran c = refl
+
+pub created-ran : (c : Creation) → Good c → ranNew c ≡ ranOf (created c .tunnel) (created c .store)
+created-ran c good = made-ran c ∙ sym (ap (λ (w : World). ranOf (w .tunnel) (w .store)) (good-made c good))
+
+ran-after : (calls : List Call) (w : World) → Sound (w .tunnel)
+    → ranAfter (ranOf (w .tunnel) (w .store)) calls ≡ ranOf (after w calls .tunnel) (after w calls .store)
+unfolding ranAfter after
+ran-after [] w s = refl
+ran-after (call ∷ calls) w s =
+    ap (λ (r : Ran). ranAfter r calls) (ran-step w call (s .holds)) ∙ ran-after calls (step w call .world) (sound-step w call s)
+
+pub ran-created : (c : Creation) → Good c → (calls : List Call)
+    → ranAfter (ranNew c) calls ≡ ranOf (after (created c) calls .tunnel) (after (created c) calls .store)
+ran-created c good calls = ap (λ (r : Ran). ranAfter r calls) (created-ran c good) ∙ ran-after calls (created c) (sound-created c)

@@ -1,110 +1,173 @@
--- Demand 2, sending: the counters that a session grants are 0, 1, 2 on.
+-- Demand 2, sending: the counters that a session grants are 0, 1, 2 on, the keepalives polled are the wakings', and a send is answered by what the
+-- current session has left.
 -- Assumes nothing.
 use mathlib.Core.Path.{_≡_, refl, ap, sym, _∙_}
-use mathlib.Core.List.{List, []}
-use Prim.Native.Nat.{ℕ, _≤_}
+use mathlib.Core.Bool.{true}
+use mathlib.Core.List.{List, [], _∷_}
+use Prim.Native.Nat.{ℕ, _+_, _-_, _^_, _≤_, _<_}
 use native.Mathlib.Omega.{arith}
-use lib.ListN.{length}
-use Rattle.base.proofs.Choice.{of-choice}
-use Rattle.tunnel.specs.Control.{pollEvent}
-use Rattle.tunnel.specs.declared.answer.Answer.the-variants.{Granted, Polled}
-use Rattle.tunnel.specs.declared.control.Out.{Out}
-use Rattle.demands.proofs.After.{known-run}
-use Rattle.demands.proofs.Granting.Sends.{none, some}
-use Rattle.demands.proofs.Granting.{Sends, sends-some}
-use Rattle.demands.proofs.Held.{Runs}
-use Rattle.base.proofs.Counting.{length-upFrom}
-use Rattle.demands.proofs.Known.{Known}
-use Rattle.demands.proofs.Queued.{queue-polled, put-none}
-use Rattle.demands.proofs.Stepped.{put, pushed, woke-step}
-use Rattle.demands.proofs.Waked.Waked.{silent, queues, grants}
-use Rattle.demands.proofs.Waked.{Waked}
-use Rattle.demands.specs.Calls.Call.{send, timeout, event}
-use Rattle.demands.specs.Calls.{Reply, World, step, after, created}
-use Rattle.demands.specs.Sending.Among.{here, there}
-use Rattle.demands.specs.Sending.{Grant, Among, currentIn, putBy, Sending}
+use lib.ListN.{length, getD}
+use borrow.Author.Tests.{ne-eqb}
+use Rattle.base.proofs.Counting.{length-upFrom, upFrom-at}
 use Rattle.base.specs.Lists.{upFrom}
-use Rattle.tunnel.specs.declared.event.Event.the-variants.{Empty, SendKeepalive}
-use Rattle.tunnel.specs.declared.event.Event.{Event}
-use Rattle.sessions.specs.declared.range.Range.{Range}
+use Rattle.demands.proofs.After.{known-run}
+use Rattle.demands.proofs.Gated.{gate-open, timed-open, alive-test, ended-test, eleven-ended, ended-eleven}
+use Rattle.demands.proofs.Grown.{grown, none-current}
+use Rattle.demands.proofs.Held.{Runs, messageIn}
+use Rattle.demands.proofs.Known.{Known}
+use Rattle.demands.proofs.Peers.{sends, wakes}
+use Rattle.demands.proofs.Queued.{queue-polls}
+use Rattle.demands.proofs.Ran.{ran-created}
+use Rattle.demands.proofs.Sendable.{current-message, current-counter, Meets, meets-may, may-meets, send-granted, send-twelve}
+use Rattle.demands.specs.Calls.Call.{send}
+use Rattle.demands.specs.Calls.{Call, World, step, Creation, created, Good, Expired}
+use Rattle.demands.specs.Made.{Insertion, inserted, insertions, messageOf}
+use Rattle.demands.specs.Receiving.{historyOf}
+use Rattle.demands.specs.Sending.{currentIn, wokenGrants, grants, polled, worldAfter, madeBy, grantedTo, CanSend, sendAfter, Sending}
+use Rattle.demands.specs.Wakings.{Ran, ranNew, ranAfter}
+use Rattle.sessions.proofs.Laws.{lookup-law}
+use Rattle.sessions.specs.Laws.{MaySend}
+use Rattle.sessions.specs.Range.{range}
+use Rattle.sessions.specs.Sessions.{currentOf}
 use Rattle.sessions.specs.declared.session.Session.{Session}
-use Rattle.sessions.specs.declared.sessions.Found.the-variants.{Got}
-use Rattle.tunnel.specs.Tunnel.{refused, settled, timed, timeless, callSend, callEvent}
-use Rattle.tunnel.specs.declared.tunnel.Answered.{Answered}
-use Rattle.window.specs.Window.{limit}
+use Rattle.sessions.specs.declared.sessions.Found.the-variants.{Nothing, Got}
+use Rattle.tunnel.specs.Answer.{numberOf, valuesOf}
+use Rattle.tunnel.specs.Damage.{undamaged}
+use Rattle.tunnel.specs.Encapsulate as encapsulate
+use Rattle.tunnel.specs.Numbers.{Alive}
+use Rattle.tunnel.specs.Tunnel.{callSend}
+use Rattle.tunnel.specs.declared.answer.Answer.the-variants.{Granted}
+use Rattle.tunnel.specs.declared.answer.Answer.{Answer}
 
--- counters that run are the first ones
-runs-counts : (l : List ℕ) → Runs l → l ≡ upFrom 0 (length l)
-runs-counts l r = r .are ∙ ap (λ (i : ℕ). upFrom 0 i) (sym (ap length (r .are) ∙ length-upFrom 0 (r .count)))
+-- counters that run are the first ones, below LIMIT
+module _ (l : List ℕ) (r : Runs l) where
+  runs-long : length l ≡ r .count
+  runs-long = ap length (r .are) ∙ length-upFrom 0 (r .count)
 
-runs-below : (l : List ℕ) → Runs l → length l ≤ limit
-runs-below l r = let e : length l ≡ r .count = ap length (r .are) ∙ length-upFrom 0 (r .count) in omega (arith, e, r .below)
+  runs-counts : l ≡ upFrom 0 (length l)
+  runs-counts = r .are ∙ ap (λ (i : ℕ). upFrom 0 i) (sym runs-long)
 
--- whose a grant is
-abbrev Whose : World → ℕ → Type 0
-Whose w peer = (session : Session) × (currentIn w ≡ Got session) × (session .«sending_index» ≡ peer)
+  runs-below : (i : ℕ) → i < length l → getD l i 0 < 2 ^ 64 - 8193
+  runs-below i low =
+      let at : getD l i 0 ≡ 0 + i = ap (λ (m : List ℕ). getD m i 0) (r .are) ∙ upFrom-at 0 (r .count) i (omega (arith, low, runs-long)) in
+      omega (arith, at, low, runs-long, r .below)
 
-module _ (w : World) (n : ℕ) (h : ℕ → List ℕ) (g k : List Grant) (y : Known n h g k (w .tunnel .control) (w .store)) where
-  granted-same : (a b : Range) → Granted a ≡ Granted b → a ≡ b
-  granted-same a b e = cc
+-- the answer of a send that the checks let through
+module _ (w : World) (u : undamaged (w .tunnel) ≡ true) (count now : ℕ) (some : 1 ≤ count) (timely : now ≤ 4000000000000000000)
+    (onward : w .tunnel .greatest ≤ now) where
+  send-open : step w (send count now) .answer ≡ encapsulate.send (w .tunnel .control) count now .answer
+  unfolding step callSend
+  send-open =
+      timed-open (w .tunnel) _ now _ (gate-open (w .tunnel) _ now u (ne-eqb count 0 (λ z. omega (arith, z, some))) timely onward)
 
-  of-sends : (out : Out) (range : Range) → Sends (w .tunnel .control) (w .store) out → out .answer ≡ Granted range → Whose w (range .peer)
-  of-sends out range (none i) e = absurd (i .plain .ungranted range e)
-  of-sends out range (some x peer first len v q) e =
-      (x, v .current, v .peer-is ∙ ap (λ (r : Range). r .peer) (granted-same _ range (sym q ∙ e)))
+-- what a granted range says
+module _ (answer : Answer) (peer first count : ℕ) (e : answer ≡ Granted (range peer first count)) where
+  granted-number : numberOf answer ≡ 0
+  unfolding numberOf
+  granted-number = rw e refl
 
-  refused-none : (number : ℕ) (range : Range) → refused (w .tunnel) number .answer ≡ Granted range → Whose w (range .peer)
-  unfolding refused
-  refused-none number range e = let z : _≡_ {A = ℕ} 0 1 = cc in absurd (omega arith)
+  granted-values : valuesOf answer ≡ peer ∷ first ∷ count ∷ []
+  unfolding valuesOf
+  granted-values = rw e refl
 
-  sends : (count now : ℕ) (range : Range) → step w (send count now) .answer ≡ Granted range → Whose w (range .peer)
-  unfolding step callSend timed settled
-  sends count now range =
-      of-choice (λ (a : Answered). a .answer ≡ Granted range → Whose w (range .peer)) _ _ _
-      (of-sends _ range (sends-some (w .tunnel .control) (w .store) count now)) (refused-none _ range)
+same-values : (a b c d n : ℕ) → a ≡ b → c ≡ d → b ∷ d ∷ n ∷ [] ≡ a ∷ c ∷ n ∷ []
+same-values a b c d n p q = cc
 
-  -- a waking
-  none-among : (peer counter : ℕ) (l : List Grant) → l ≡ [] → Among peer counter l → ⊥
-  none-among peer counter l e here = let z : _≡_ {A = ℕ} 0 1 = cc in omega arith
-  none-among peer counter l e (there a) = let z : _≡_ {A = ℕ} 0 1 = cc in omega arith
+got-nothing : (x : Session) → Got x ≡ Nothing → ⊥
+got-nothing x e = let z : _≡_ {A = ℕ} 0 1 = cc in omega arith
 
-  keepalive-peer : (a b x y : ℕ) → SendKeepalive a b ≡ SendKeepalive x y → a ≡ x
-  keepalive-peer a b x y e = cc
+module _ (c : Creation) (good : Good c) (calls : List Call) (few : insertions (madeBy c calls) < 2 ^ 64) where
+  abbrev here : World
+  here = worldAfter c calls
 
-  of-waked : (jitter now peer counter : ℕ) (reply : Reply) → Waked (w .tunnel .control) (w .store) (reply .world .tunnel .control) (reply .world .store)
-      → put n h g k w y jitter now reply ≡ SendKeepalive peer counter → Whose w peer
-  of-waked jitter now peer counter reply (silent v e) p =
-      let q : SendKeepalive peer counter ≡ Empty = sym p ∙ put-none _ _ e in
-      let z : _≡_ {A = ℕ} 0 1 = cc in absurd (omega arith)
-  of-waked jitter now peer counter reply (queues ev u v e) p =
-      absurd (none-among peer counter [] refl (u .granted [] peer counter (sym (pushed n h g k w y jitter now reply ev e) ∙ p)))
-  of-waked jitter now peer counter reply (grants x to first q r v e) p =
-      (x, q, r ∙ keepalive-peer to first peer counter (sym (pushed n h g k w y jitter now reply _ e) ∙ p))
+  known : Known (inserted (madeBy c calls)) (λ id. historyOf id (created c) calls) (grants (madeBy c calls)) (wokenGrants (madeBy c calls))
+      (polled (madeBy c calls)) (here .tunnel .control) (here .store)
+  known = known-run c good calls few
 
-  wakes : (jitter now peer counter : ℕ) → putBy w (timeout jitter now) ≡ SendKeepalive peer counter → Whose w peer
-  wakes jitter now peer counter p = of-waked jitter now peer counter (step w (timeout jitter now)) (woke-step n h g k w y jitter now .waked) p
+  -- the session that is current by the Rust's calls is the tunnel's
+  current-here : (x : Session) → currentOf (ranAfter (ranNew c) calls .control .sessions) ≡ Got x → currentIn here ≡ Got x
+  current-here x e = ap (λ (r : Ran). currentOf (r .control .sessions)) (sym (ran-created c good calls)) ∙ e
 
-  -- the oldest event
-  polled-same : (a b : Event) → Polled a ≡ Polled b → a ≡ b
-  polled-same a b e = cc
+  current-ran : (x : Session) → currentIn here ≡ Got x → currentOf (ranAfter (ranNew c) calls .control .sessions) ≡ Got x
+  current-ran x e = ap (λ (r : Ran). currentOf (r .control .sessions)) (ran-created c good calls) ∙ e
 
-  refused-poll : (number : ℕ) (ev : Event) → refused (w .tunnel) number .answer ≡ Polled ev → ⊥
-  unfolding refused
-  refused-poll number ev e = let z : _≡_ {A = ℕ} 0 1 = cc in omega arith
+  module _ (x : Session) (current : currentIn here ≡ Got x) where
+    message-is : messageOf (x .id) (madeBy c calls) ≡ messageIn x
+    message-is = current-message _ _ _ (here .tunnel .control .sessions) (here .store) (known .held) x current
 
-  polled : (peer counter : ℕ) → step w event .answer ≡ Polled (SendKeepalive peer counter) → Among peer counter k
-  unfolding step callEvent timeless settled pollEvent
-  polled peer counter =
-      of-choice (λ (a : Answered). a .answer ≡ Polled (SendKeepalive peer counter) → Among peer counter k) _ _ _
-      (λ e. queue-polled k (w .tunnel .control .events) (y .queue) peer counter (polled-same _ _ e)) (λ e. absurd (refused-poll _ _ e))
+    counter-is : grantedTo (x .id) (madeBy c calls) ≡ x .«sending_key_counter»
+    counter-is = current-counter _ _ _ (here .tunnel .control .sessions) (here .store) (known .held) x current
+
+    -- a tunnel with a current session is not expired
+    alive : Alive (here .tunnel)
+    alive e = got-nothing x (sym current ∙ none-current c good calls e)
+
+  module _ (count now : ℕ) where
+    -- a send that a session can meet
+    can-meets : (can : CanSend c calls count now)
+        → Meets (messageOf (can .current .0 .id) (madeBy c calls)) (grantedTo (can .current .0 .id) (madeBy c calls)) count now
+    can-meets can = record { prompt = can .prompt; young = can .young; left = can .left }
+
+    can-granted : (can : CanSend c calls count now)
+        → sendAfter c calls count now ≡ Granted (range (can .current .0 .«sending_index») (can .current .0 .«sending_key_counter») count)
+    can-granted can =
+        let x : Session = can .current .0 in
+        let e : currentIn here ≡ Got x = current-here x (can .current .1) in
+        let n : grantedTo (x .id) (madeBy c calls) ≡ x .«sending_key_counter» = counter-is x e in
+        let may : MaySend x now = meets-may x _ _ count now (message-is x e) n (can .some) (can-meets can) in
+        send-open here (grown c good calls) count now (can .some) (can .timely) (can .onward)
+        ∙ send-granted (here .tunnel .control) count now x (lookup-law (here .tunnel .control .sessions) .sends now x e may)
+        (omega (arith, n, can .left)) (alive-test (here .tunnel) (alive x e))
+
+    met : (can : CanSend c calls count now) → (numberOf (sendAfter c calls count now) ≡ 0)
+        × (valuesOf (sendAfter c calls count now)
+        ≡ messageOf (can .current .0 .id) (madeBy c calls) .peer ∷ grantedTo (can .current .0 .id) (madeBy c calls) ∷ count ∷ [])
+    met can =
+        let x : Session = can .current .0 in
+        let e : currentIn here ≡ Got x = current-here x (can .current .1) in (
+          granted-number _ _ _ _ (can-granted can),
+          granted-values _ _ _ _ (can-granted can) ∙ same-values _ _ _ _ count (ap (λ (m : Insertion). m .peer) (message-is x e)) (counter-is x e),
+        )
+
+    eleven : numberOf (sendAfter c calls count now) ≡ 11 → Expired here
+    eleven e = ended-eleven here (grown c good calls) (eleven-ended here count now e)
+
+    twelve : numberOf (sendAfter c calls count now) ≡ 12 → CanSend c calls count now → ⊥
+    twelve e can = omega (arith, e, met can .0)
+
+    -- one that no session can meet
+    module _ (some : 1 ≤ count) (timely : now ≤ 4000000000000000000) (onward : here .tunnel .greatest ≤ now) where
+      can-send : (x : Session) → currentIn here ≡ Got x → MaySend x now → x .«sending_key_counter» + count ≤ 2 ^ 64 - 8193 → CanSend c calls count now
+      can-send x e may below =
+          let m : Meets (messageOf (x .id) (madeBy c calls)) (grantedTo (x .id) (madeBy c calls)) count now =
+          may-meets x _ _ count now (message-is x e) (counter-is x e) may below in
+          record {
+            some = some;
+            timely = timely;
+            onward = onward;
+            current = (x, current-ran x e);
+            prompt = m .prompt;
+            young = m .young;
+            left = m .left;
+          }
+
+      otherwise : (Expired here → ⊥) → (CanSend c calls count now → ⊥) → numberOf (sendAfter c calls count now) ≡ 12
+      otherwise living cannot =
+          ap numberOf (send-open here (grown c good calls) count now some timely onward)
+          ∙ send-twelve (here .tunnel .control) count now (λ e. living (ended-eleven here (grown c good calls) (ended-test (here .tunnel) e)))
+          (λ x e may below. cannot (can-send x e may below))
 
 pub sending-law : Sending
 sending-law c good calls few =
-    let y : Known _ _ _ _ _ _ = known-run c good calls few in
+    let y : Known _ _ _ _ _ _ _ = known c good calls few in
     record {
       counts = λ id. runs-counts _ (y .held .runs id);
       below = λ id. runs-below _ (y .held .runs id);
-      sends = sends (after (created c) calls) _ _ _ _ y;
-      wakes = wakes (after (created c) calls) _ _ _ _ y;
-      polled = polled (after (created c) calls) _ _ _ _ y;
+      sends = sends (worldAfter c calls) _ _ _ _ _ y;
+      wakes = wakes (worldAfter c calls) _ _ _ _ _ y;
+      polls = queue-polls _ _ _ (y .queue);
+      met = met c good calls few;
+      eleven = eleven c good calls few;
+      twelve = twelve c good calls few;
+      otherwise = otherwise c good calls few;
     }

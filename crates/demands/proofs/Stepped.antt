@@ -1,16 +1,17 @@
--- Each call keeps what is known, with what it inserts, commits and grants added.
+-- Each call keeps what is known, with what it inserts, commits, grants and polls added.
 -- Assumes nothing.
-use mathlib.Core.Path.{_≡_, refl, sym, _∙_}
+use mathlib.Core.Path.{_≡_, refl, ap, sym, _∙_}
 use mathlib.Core.Bool.{Bool, true, false}
 use mathlib.Core.List.{List, [], _∷_, _++_, append-nil}
 use Prim.Native.Nat.{ℕ, _+_, _^_, _<_}
-use native.Mathlib.Nat.{add-zero}
+use native.Mathlib.Omega.{arith}
 use lib.Dec.{eqb}
+use lib.ListN.{length}
 use borrow.Author.Tests.{eqb-true, eqb-false}
-use Rattle.base.proofs.Choice.{yes-eq, no-eq, of-choice}
+use Rattle.base.proofs.Choice.{yes-eq, no-eq, same-choice, of-choice}
 use Rattle.base.specs.Choice.{choose}
 use Rattle.tunnel.specs.Answer.{numberOf}
-use Rattle.tunnel.specs.Control.{Turn, refuse, done}
+use Rattle.tunnel.specs.Control.{Turn, refuse, done, pollEvent}
 use Rattle.tunnel.specs.declared.answer.Answer.the-variants.{No, Done}
 use Rattle.tunnel.specs.declared.answer.Answer.{Answer}
 use Rattle.tunnel.specs.declared.control.Control.{Control}
@@ -22,15 +23,15 @@ use Rattle.demands.proofs.Inserting.Inserts.{nothing, responds, complet
 use Rattle.demands.proofs.Inserting.{Inserts, inserts-initiation, inserts-response}
 use Rattle.demands.proofs.Judging.Judged.{turned, taken}
 use Rattle.demands.proofs.Judging.{Judged, judged-batch}
-use Rattle.demands.proofs.Known.{Known, Plain, plain-of, known-as, known-same, Idle, idle-refused, idle-start, idle-restart, idle-look, idle-cookie, idle-event, idle-deadline, idle-missing}
-use Rattle.demands.proofs.Queued.{EventGranted, queue-later, queue-push, put-none, put-pushed, among-last}
+use Rattle.demands.proofs.Known.{Known, Plain, plain-of, known-as, known-same, Idle, idle-refused, idle-start, idle-restart, idle-look, idle-cookie, known-event, ungranted-event, idle-deadline, idle-missing}
+use Rattle.demands.proofs.Queued.{queue-push, queue-granted, put-none, put-pushed}
 use Rattle.demands.proofs.Waked.Waked.{silent, queues, grants}
 use Rattle.demands.proofs.Waked.{Waked, From, woken}
 use Rattle.demands.specs.Calls.Call.{start, restart, send, receive, look, initiation, response, cookie, timeout, event, deadline, missing}
-use Rattle.demands.specs.Calls.{Call, World, Reply, stored, judged, step}
-use Rattle.demands.specs.Made.{caseBatch, caseWaking, caseAnswer, inserts}
+use Rattle.demands.specs.Calls.{Call, World, Reply, stored, batched, step}
+use Rattle.demands.specs.Made.{caseBatch, caseWaking, caseMessage, caseAnswer, Insertion, insertion, insertionBy}
 use Rattle.demands.specs.Receiving.{committing}
-use Rattle.demands.specs.Sending.{Grant, granting, currentIn, putLast, keepaliveBy, wokenGrant, answeredGrant}
+use Rattle.demands.specs.Sending.{Grant, granting, currentIn, putLast, keepaliveBy, wokenGrant, answeredGrant, PolledKeepalive, polledBy}
 use Rattle.tunnel.specs.Cases.{caseEvent}
 use Rattle.tunnel.specs.RingBuffer.{pushBack}
 use Rattle.tunnel.specs.declared.event.Event.the-variants.{Empty, SendKeepalive}
@@ -49,91 +50,105 @@ use Rattle.tunnel.specs.declared.tunnel.Answered.{Answered}
 use Rattle.tunnel.specs.HandleTimeout.{handleTimeout}
 
 -- what is known after a call
-abbrev pub Next : (n : ℕ) (h : ℕ → List ℕ) (g k : List Grant) → World → Call → Reply → Type 0
-Next n h g k w call reply =
-    Known (n + inserts (reply .answer)) (λ id. committing id (h id) call reply)
-    (g ++ (answeredGrant w (reply .answer) ++ wokenGrant w call reply))
+abbrev pub Next : (ins : List Insertion) (h : ℕ → List ℕ) (g k : List Grant) (polls : List PolledKeepalive) → World → Call → Reply → Type 0
+Next ins h g k polls w call reply =
+    Known (ins ++ insertionBy call (reply .answer)) (λ id. committing id (h id) call reply)
+    (g ++ (answeredGrant (length ins) w (reply .answer) ++ wokenGrant w call reply))
     (k ++ wokenGrant w call reply)
+    (polls ++ polledBy (reply .answer))
     (reply .world .tunnel .control)
     (reply .world .store)
 
-keepalive-granted : (k : List Grant) (id peer first : ℕ) → EventGranted (k ++ granting id peer first 1 ∷ []) (SendKeepalive peer first)
-keepalive-granted k id peer first p c e =
-    let a : peer ≡ p = cc in
-    let b : first ≡ c = cc in
-    rw (← a, ← b) (among-last peer first id k)
-
 -- the frames of operations that insert, commit and grant nothing
-record Quiet (n : ℕ) (h : ℕ → List ℕ) (g k : List Grant) (store : List ℕ) (a : Answered) : Type 0 where
-  known : Known n h g k (a .tunnel .control) store
+record Quiet (ins : List Insertion) (h : ℕ → List ℕ) (g k : List Grant) (polls : List PolledKeepalive) (store : List ℕ) (a : Answered) : Type 0 where
+  known : Known ins h g k polls (a .tunnel .control) store
   plain : Plain (a .answer)
 
-module _ (n : ℕ) (h : ℕ → List ℕ) (g k : List Grant) (w : World) (y : Known n h g k (w .tunnel .control) (w .store)) where
-  turned-down : (number : ℕ) → Quiet n h g k (w .store) (refused (w .tunnel) number)
+module _ (ins : List Insertion) (h : ℕ → List ℕ) (g k : List Grant) (polls : List PolledKeepalive) (w : World)
+    (y : Known ins h g k polls (w .tunnel .control) (w .store)) where
+  turned-down : (number : ℕ) → Quiet ins h g k polls (w .store) (refused (w .tunnel) number)
   unfolding refused refuse
   turned-down number = record { known = y; plain = idle-refused (w .tunnel .control) (w .store) number .plain }
 
-  quiet-timed : (bad : Bool) (now : ℕ) (out : Out) → Idle (w .tunnel .control) (w .store) out (w .store) → Quiet n h g k (w .store) (timed (w .tunnel) bad now out)
+  quiet-timed : (bad : Bool) (now : ℕ) (out : Out) → Idle (w .tunnel .control) (w .store) out (w .store)
+      → Quiet ins h g k polls (w .store) (timed (w .tunnel) bad now out)
   unfolding timed settled
   quiet-timed bad now out i =
-      of-choice (λ (a : Answered). Quiet n h g k (w .store) a) _ _ _ (record { known = i .known n h g k y; plain = i .plain }) (turned-down _)
+      of-choice (λ (a : Answered). Quiet ins h g k polls (w .store) a) _ _ _ (record { known = i .known ins h g k polls y; plain = i .plain }) (turned-down _)
 
-  quiet-timeless : (bad : Bool) (out : Out) → Idle (w .tunnel .control) (w .store) out (w .store) → Quiet n h g k (w .store) (timeless (w .tunnel) bad out)
+  quiet-timeless : (bad : Bool) (out : Out) → Idle (w .tunnel .control) (w .store) out (w .store)
+      → Quiet ins h g k polls (w .store) (timeless (w .tunnel) bad out)
   unfolding timeless settled
   quiet-timeless bad out i =
-      of-choice (λ (a : Answered). Quiet n h g k (w .store) a) _ _ _ (record { known = i .known n h g k y; plain = i .plain }) (turned-down _)
+      of-choice (λ (a : Answered). Quiet ins h g k polls (w .store) a) _ _ _ (record { known = i .known ins h g k polls y; plain = i .plain }) (turned-down _)
 
-  next-quiet : (a : Answered) → Quiet n h g k (w .store) a
-      → Known (n + inserts (a .answer)) h (g ++ (answeredGrant w (a .answer) ++ [])) (k ++ []) (a .tunnel .control) (w .store)
-  next-quiet a q = known-same n _ h g _ k [] (a .tunnel .control) (w .store) (q .plain .inserted) (q .plain .granted w) refl (q .known)
+  -- what is known after a call that is no batch and no waking
+  abbrev Then : List Insertion → Answer → Control → List ℕ → Type 0
+  Then m answer c store =
+      Known (ins ++ m) h (g ++ (answeredGrant (length ins) w answer ++ [])) (k ++ []) (polls ++ polledBy answer) c store
 
-  next-start : (now : ℕ) → Next n h g k w (start now) (step w (start now))
-  unfolding step callStart committing caseBatch wokenGrant caseWaking
-  next-start now = next-quiet _ (quiet-timed _ now _ (idle-start (w .tunnel .control) (w .store) now))
+  none-more : (f : Bool) → ins ++ choose f [] [] ≡ ins
+  none-more f = ap (λ (l : List Insertion). ins ++ l) (same-choice f []) ∙ append-nil ins
 
-  next-restart : (now : ℕ) → Next n h g k w (restart now) (step w (restart now))
-  unfolding step callRestart committing caseBatch wokenGrant caseWaking
-  next-restart now = next-quiet _ (quiet-timed _ now _ (idle-restart (w .tunnel .control) (w .store) now))
+  next-quiet : (m : List Insertion) (a : Answered) → m ≡ [] → Quiet ins h g k polls (w .store) a → Then m (a .answer) (a .tunnel .control) (w .store)
+  next-quiet m a e q = known-same ins m h g _ k [] polls _ (a .tunnel .control) (w .store) e (q .plain .granted (length ins) w) refl (q .plain .polled) (q .known)
 
-  next-look : (index counter now : ℕ) → Next n h g k w (look index counter now) (step w (look index counter now))
-  unfolding step callLook committing caseBatch wokenGrant caseWaking
-  next-look index counter now = next-quiet _ (quiet-timed _ now _ (idle-look (w .tunnel .control) (w .store) index counter now))
+  next-start : (now : ℕ) → Next ins h g k polls w (start now) (step w (start now))
+  unfolding step callStart committing caseBatch wokenGrant caseWaking insertionBy caseMessage
+  next-start now = next-quiet _ _ (same-choice _ []) (quiet-timed _ now _ (idle-start (w .tunnel .control) (w .store) now))
 
-  next-cookie : (receiver outcome now : ℕ) → Next n h g k w (cookie receiver outcome now) (step w (cookie receiver outcome now))
-  unfolding step callCookie committing caseBatch wokenGrant caseWaking
-  next-cookie receiver outcome now = next-quiet _ (quiet-timed _ now _ (idle-cookie (w .tunnel .control) (w .store) receiver _ now))
+  next-restart : (now : ℕ) → Next ins h g k polls w (restart now) (step w (restart now))
+  unfolding step callRestart committing caseBatch wokenGrant caseWaking insertionBy caseMessage
+  next-restart now = next-quiet _ _ (same-choice _ []) (quiet-timed _ now _ (idle-restart (w .tunnel .control) (w .store) now))
 
-  next-event : Next n h g k w event (step w event)
-  unfolding step callEvent committing caseBatch wokenGrant caseWaking
-  next-event = next-quiet _ (quiet-timeless _ _ (idle-event (w .tunnel .control) (w .store)))
+  next-look : (index counter now : ℕ) → Next ins h g k polls w (look index counter now) (step w (look index counter now))
+  unfolding step callLook committing caseBatch wokenGrant caseWaking insertionBy caseMessage
+  next-look index counter now =
+      next-quiet _ _ (same-choice _ []) (quiet-timed _ now _ (idle-look (w .tunnel .control) (w .store) index counter now))
 
-  next-deadline : Next n h g k w deadline (step w deadline)
-  unfolding step callDeadline committing caseBatch wokenGrant caseWaking
-  next-deadline = next-quiet _ (quiet-timeless _ _ (idle-deadline (w .tunnel .control) (w .store) _))
+  next-cookie : (receiver outcome now : ℕ) → Next ins h g k polls w (cookie receiver outcome now) (step w (cookie receiver outcome now))
+  unfolding step callCookie committing caseBatch wokenGrant caseWaking insertionBy caseMessage
+  next-cookie receiver outcome now =
+      next-quiet _ _ (same-choice _ []) (quiet-timed _ now _ (idle-cookie (w .tunnel .control) (w .store) receiver _ now))
 
-  next-missing : (index : ℕ) → Next n h g k w (missing index) (step w (missing index))
-  unfolding step callMissing committing caseBatch wokenGrant caseWaking
-  next-missing index = next-quiet _ (quiet-timeless _ _ (idle-missing (w .tunnel .control) (w .store) index))
+  next-deadline : Next ins h g k polls w deadline (step w deadline)
+  unfolding step callDeadline committing caseBatch wokenGrant caseWaking insertionBy caseMessage
+  next-deadline = next-quiet _ _ (same-choice _ []) (quiet-timeless _ _ (idle-deadline (w .tunnel .control) (w .store) _))
+
+  next-missing : (index : ℕ) → Next ins h g k polls w (missing index) (step w (missing index))
+  unfolding step callMissing committing caseBatch wokenGrant caseWaking insertionBy caseMessage
+  next-missing index = next-quiet _ _ (same-choice _ []) (quiet-timeless _ _ (idle-missing (w .tunnel .control) (w .store) index))
+
+  -- the oldest event
+  of-event : (m : List Insertion) → m ≡ [] → Then m (pollEvent (w .tunnel .control) .answer) (pollEvent (w .tunnel .control) .control) (w .store)
+  of-event m e =
+      known-as ins _ h g _ k _ _ _ _ (w .store) (rw e (append-nil ins)) (rw (ungranted-event (w .tunnel .control) (w .store) (length ins) w) (append-nil g))
+      (append-nil k) refl (known-event (w .tunnel .control) (w .store) ins h g k polls y)
+
+  next-event : Next ins h g k polls w event (step w event)
+  unfolding step callEvent timeless settled committing caseBatch wokenGrant caseWaking insertionBy caseMessage
+  next-event =
+      of-choice (λ (a : Answered). Then (choose (eqb (numberOf (a .answer)) 0) [] []) (a .answer) (a .tunnel .control) (w .store)) _ _ _
+      (of-event _ (same-choice _ [])) (next-quiet _ _ (same-choice _ []) (turned-down _))
 
   -- a send
-  of-send : (now : ℕ) (out : Out) → Sends (w .tunnel .control) (w .store) out
-      → Known (n + inserts (out .answer)) h (g ++ (answeredGrant w (out .answer) ++ [])) (k ++ []) (out .control) (w .store)
-  unfolding inserts answeredGrant caseAnswer caseFound
-  of-send now out (none i) = known-same n _ h g _ k [] (out .control) (w .store) (i .plain .inserted) (i .plain .granted w) refl (i .known n h g k y)
-  of-send now out (some x peer first len v e) =
-      known-as n _ h _ _ k _ (out .control) (w .store) (rw e (add-zero n)) (rw (e, v .current)) (append-nil k) (v .known n h g k y)
+  of-send : (m : List Insertion) (out : Out) → m ≡ [] → Sends (w .tunnel .control) (w .store) out → Then m (out .answer) (out .control) (w .store)
+  unfolding answeredGrant polledBy caseAnswer caseFound
+  of-send m out p (none i) =
+      known-same ins m h g _ k [] polls _ (out .control) (w .store) p (i .plain .granted (length ins) w) refl (i .plain .polled) (i .known ins h g k polls y)
+  of-send m out p (some x peer first len v e) =
+      known-as ins _ h _ _ k _ polls _ (out .control) (w .store) (rw p (append-nil ins)) (rw (e, v .current)) (append-nil k) (rw e (append-nil polls))
+      (v .known ins h g k polls y)
 
-  next-send : (count now : ℕ) → Next n h g k w (send count now) (step w (send count now))
-  unfolding step callSend timed settled committing caseBatch wokenGrant caseWaking
+  next-send : (count now : ℕ) → Next ins h g k polls w (send count now) (step w (send count now))
+  unfolding step callSend timed settled committing caseBatch wokenGrant caseWaking insertionBy caseMessage
   next-send count now =
-      of-choice
-      (λ (a : Answered). Known (n + inserts (a .answer)) h (g ++ (answeredGrant w (a .answer) ++ [])) (k ++ []) (a .tunnel .control) (w .store))
-      _ _ _
-      (of-send now _ (sends-some (w .tunnel .control) (w .store) count now))
-      (next-quiet _ (turned-down _))
+      of-choice (λ (a : Answered). Then (choose (eqb (numberOf (a .answer)) 0) [] []) (a .answer) (a .tunnel .control) (w .store)) _ _ _
+      (of-send _ _ (same-choice _ []) (sends-some (w .tunnel .control) (w .store) count now)) (next-quiet _ _ (same-choice _ []) (turned-down _))
 
   -- a batch
-  pointwise : (i : ℕ → List ℕ) (c : Control) (store : List ℕ) → ((id : ℕ) → i id ≡ h id) → Known n h g k c store → Known n i g k c store
+  pointwise : (i : ℕ → List ℕ) (c : Control) (store : List ℕ) → ((id : ℕ) → i id ≡ h id) → Known ins h g k polls c store
+      → Known ins i g k polls c store
   pointwise i c store e v =
       record {
         held = record {
@@ -141,8 +156,8 @@ module _ (n : ℕ) (h : ℕ → List ℕ) (g k : List Grant) (w : World) (y : Kn
           size = v .held .size;
           count = v .held .count;
           slots = λ j low f.
-              (let s : SlotHeld n h g j _ _ = v .held .slots j low f in
-              record { placed = s .placed; named = s .named; stands = rw (e _) (s .stands); granted = s .granted });
+              (let s : SlotHeld ins h g j _ _ = v .held .slots j low f in
+              record { placed = s .placed; named = s .named; message = s .message; stands = rw (e _) (s .stands); granted = s .granted });
           apart = v .held .apart;
           unborn = λ id l. e id ∙ v .held .unborn id l;
           ungranted = v .held .ungranted;
@@ -157,32 +172,34 @@ module _ (n : ℕ) (h : ℕ → List ℕ) (g k : List Grant) (w : World) (y : Kn
 
     -- turned down
     next-turned : (reply : Reply) (number : ℕ) → reply .answer ≡ No number → (number ≡ 0 → ⊥)
-        → Known n h g k (reply .world .tunnel .control) (reply .world .store) → Next n h g k w batch reply
-    unfolding committing caseBatch wokenGrant caseWaking numberOf inserts answeredGrant caseAnswer
+        → Known ins h g k polls (reply .world .tunnel .control) (reply .world .store) → Next ins h g k polls w batch reply
+    unfolding committing caseBatch wokenGrant caseWaking numberOf insertionBy caseMessage answeredGrant polledBy caseAnswer
     next-turned reply number e d v =
-        known-as n _ _ g _ k _ _ _ (rw e (add-zero n)) (rw e (append-nil g)) (append-nil k)
+        known-as ins _ _ g _ k _ polls _ _ _ (none-more _) (rw e (append-nil g)) (append-nil k)
+        (rw e (append-nil polls))
         (pointwise _ _ _ (λ y. of-choice (λ (l : List ℕ). l ≡ h y) _ _ _ (rw e (sym (no-eq number 0 (h y) _ _ d refl))) refl) v)
 
     -- judged
     next-taken : (reply : Reply) → reply .answer ≡ Done
         → ((i : ℕ → List ℕ) → i id ≡ recordedAll (h id) counters (reply .verdicts) → ((z : ℕ) → (z ≡ id → ⊥) → i z ≡ h z)
-        → Known n i g k (reply .world .tunnel .control) (reply .world .store))
-        → Next n h g k w batch reply
-    unfolding committing caseBatch wokenGrant caseWaking numberOf inserts answeredGrant caseAnswer
+        → Known ins i g k polls (reply .world .tunnel .control) (reply .world .store))
+        → Next ins h g k polls w batch reply
+    unfolding committing caseBatch wokenGrant caseWaking numberOf insertionBy caseMessage answeredGrant polledBy caseAnswer
     next-taken reply e v =
-        known-as n _ _ g _ k _ _ _ (rw e (add-zero n)) (rw e (append-nil g)) (append-nil k)
+        known-as ins _ _ g _ k _ polls _ _ _ (none-more _) (rw e (append-nil g)) (append-nil k)
+        (rw e (append-nil polls))
         (v _ (sym (yes-eq id id _ _ _ refl (rw e (yes-eq 0 0 _ _ _ refl refl)))) (λ z d. sym (no-eq id z _ _ _ (λ q. d (sym q)) refl)))
 
     of-batch : (b : Batched Out) → Judged (w .tunnel .control) (w .store) id counters b
-        → Next n h g k w batch
+        → Next ins h g k polls w batch
         (record {
           world = record { tunnel = settled (w .tunnel) now (b .out) .tunnel; store = b .store };
           answer = settled (w .tunnel) now (b .out) .answer;
           verdicts = b .verdicts;
         })
     unfolding settled
-    of-batch b (turned number e d i) = next-turned _ number e d (i .known n h g k y)
-    of-batch b (taken e v) = next-taken _ e (λ i mine others. v n h i g k y mine others)
+    of-batch b (turned number e d i) = next-turned _ number e d (i .known ins h g k polls y)
+    of-batch b (taken e v) = next-taken _ e (λ i mine others. v ins h i g k polls y mine others)
 
     -- what a batch hands back, by the number of its checks
     framed : (number : ℕ) (b : Batched Out) → Batched Answered
@@ -194,12 +211,12 @@ module _ (n : ℕ) (h : ℕ → List ℕ) (g k : List Grant) (w : World) (y : Kn
         }
 
     of-framed : (f : Bool) (number : ℕ) (b : Batched Out) → eqb number 0 ≡ f → Judged (w .tunnel .control) (w .store) id counters b
-        → Next n h g k w batch (judged (framed number b))
+        → Next ins h g k polls w batch (batched (framed number b))
     unfolding framed choose refused
     of-framed true number b e j = rw e (of-batch b j)
     of-framed false number b e j = rw e (next-turned _ number refl (eqb-false number 0 e) y)
 
-    next-receive : Next n h g k w batch (step w batch)
+    next-receive : Next ins h g k polls w batch (step w batch)
     unfolding step callReceive timedBatch timed kept framed
     next-receive = of-framed _ (gate (w .tunnel) _ now) _ refl (judged-batch (w .tunnel .control) (w .store) index id now counters kinds verdicts)
 
@@ -237,22 +254,19 @@ module _ (n : ℕ) (h : ℕ → List ℕ) (g k : List Grant) (w : World) (y : Kn
     pushed reply e p = rw p (put-pushed (w .tunnel .control .events) e (y .queue .ring))
 
     next-waked : (reply : Reply) → Plain (reply .answer) → Waked (w .tunnel .control) (w .store) (reply .world .tunnel .control) (reply .world .store)
-        → Next n h g k w waking reply
-    unfolding committing caseBatch
+        → Next ins h g k polls w waking reply
+    unfolding committing caseBatch insertionBy caseMessage
     next-waked reply p (silent v e) =
-        known-same n _ h g _ k _ _ _ (p .inserted) (p .granted w) (ungranted reply Empty (put-none _ _ e) empty-none)
-        (record { held = v n h g (y .held); queue = rw e (y .queue) })
+        known-same ins _ h g _ k _ polls _ _ _ (same-choice _ []) (p .granted (length ins) w) (ungranted reply Empty (put-none _ _ e) empty-none) (p .polled)
+        (record { held = v ins h g (y .held); queue = rw e (y .queue) })
     next-waked reply p (queues ev u v e) =
-        known-same n _ h g _ k _ _ _ (p .inserted) (p .granted w) (ungranted reply ev (pushed reply ev e) (u .grants _))
-        (record { held = v n h g (y .held); queue = rw e (queue-push k _ (y .queue) ev (u .granted k)) })
+        known-same ins _ h g _ k _ polls _ _ _ (same-choice _ []) (p .granted (length ins) w) (ungranted reply ev (pushed reply ev e) (u .grants _)) (p .polled)
+        (record { held = v ins h g (y .held); queue = rw e (queue-push k polls _ (y .queue) ev (u .granted)) })
     next-waked reply p (grants x peer first q r v e) =
         let l : wokenGrant w waking reply ≡ granting (x .id) peer first 1 ∷ [] = granted reply x peer first (pushed reply _ e) q in
-        known-as n _ h (g ++ granting (x .id) peer first 1 ∷ []) _ (k ++ granting (x .id) peer first 1 ∷ []) _ _ _ (rw (p .inserted) (add-zero n))
-        (rw (p .granted w, l)) (rw l)
-        (record {
-          held = v n h g k y;
-          queue = rw e (queue-push _ _ (queue-later k _ _ (y .queue)) _ (keepalive-granted k (x .id) peer first));
-        })
+        known-as ins _ h (g ++ granting (x .id) peer first 1 ∷ []) _ (k ++ granting (x .id) peer first 1 ∷ []) _ polls _ _ _
+        (none-more _) (rw (p .granted (length ins) w, l)) (rw l) (rw (p .polled) (append-nil polls))
+        (record { held = v ins h g k polls y; queue = rw e (queue-granted k polls _ (y .queue) (x .id) peer first) })
 
     from-here : From (w .tunnel .control) (w .store) (w .tunnel .control .sessions) (w .tunnel .control .events) (w .store)
     from-here = record { held = λ m i f z. z; ring = refl; current = λ x e. e; eight = y .held .eight; size = y .held .size }
@@ -284,49 +298,67 @@ module _ (n : ℕ) (h : ℕ → List ℕ) (g k : List Grant) (w : World) (y : Kn
     unfolding step callTimeout timedTurn timed kept framed-turn
     woke-step = of-turn _ (gate (w .tunnel) _ now) _ refl woke
 
-    next-timeout : Next n h g k w waking (step w waking)
+    next-timeout : Next ins h g k polls w waking (step w waking)
     next-timeout = next-waked (step w waking) (woke-step .plain) (woke-step .waked)
 
   -- an incoming initiation and a response
   module _ (now : ℕ) where
-    -- what is known after a call that inserts a session or not
-    abbrev Inserted : Answer → Control → List ℕ → Type 0
-    Inserted answer c store = Known (n + inserts answer) h (g ++ (answeredGrant w answer ++ [])) (k ++ []) c store
+    -- the insertion of a message, by its answer
+    abbrev insertedBy : Insertion → Answer → List Insertion
+    insertedBy message answer = choose (eqb (numberOf answer) 0) (message ∷ []) []
 
-    of-inserts : (t : Turn) → n + inserts (t .out .answer) < 2 ^ 64 → Inserts (w .tunnel .control) (w .store) t
-        → Inserted (t .out .answer) (t .out .control) (t .store)
-    unfolding inserts answeredGrant caseAnswer
-    of-inserts t few (nothing i) = known-same n _ h g _ k [] _ _ (i .plain .inserted) (i .plain .granted w) refl (i .known n h g k y)
-    of-inserts t few (responds local peer e v) =
-        known-as (n + 1) _ h g _ k _ _ _ (rw e) (rw e (append-nil g)) (append-nil k) (v n h g k (rw e at few) y)
-    of-inserts t few (completes peer counter e v) =
-        known-as (n + 1) _ h (g ++ granting (w .tunnel .control .sessions .inserted) peer counter 1 ∷ []) _ k _ _ _ (rw e) (rw e) (append-nil k)
-        (v n h g k (rw e at few) y)
+    module _ (message : Insertion) where
+      one-inserted : (answer : Answer) → numberOf answer ≡ 0 → insertedBy message answer ≡ message ∷ []
+      one-inserted answer e = sym (yes-eq _ 0 _ _ _ e refl)
 
-    of-inserted : (f : Bool) (number : ℕ) (t : Turn) → eqb number 0 ≡ f → (number ≡ 0 → Inserts (w .tunnel .control) (w .store) t)
-        → n + inserts (framed-turn now number t .answered .answer) < 2 ^ 64
-        → Inserted (framed-turn now number t .answered .answer) (framed-turn now number t .answered .tunnel .control) (framed-turn now number t .store)
-    unfolding framed-turn choose settled
-    of-inserted true number t e i few = rw e (of-inserts t (rw e at few) (i (eqb-true number 0 e)))
-    of-inserted false number t e i few = rw e (next-quiet _ (turned-down number))
+      none-inserted : (answer : Answer) → (numberOf answer ≡ 0 → ⊥) → insertedBy message answer ≡ []
+      none-inserted answer d = sym (no-eq _ 0 _ _ _ d refl)
 
-    next-initiation : (peer outcome : ℕ) → n + inserts (step w (initiation peer outcome now) .answer) < 2 ^ 64
-        → Next n h g k w (initiation peer outcome now) (step w (initiation peer outcome now))
-    unfolding step callInitiation timedTurn timed kept framed-turn committing caseBatch wokenGrant caseWaking
+      few-inserted : (answer : Answer) → numberOf answer ≡ 0 → length ins + length (insertedBy message answer) < 2 ^ 64 → length ins + 1 < 2 ^ 64
+      few-inserted answer e few = let one : length (insertedBy message answer) ≡ 1 = ap length (one-inserted answer e) in omega (arith, one, few)
+
+      of-inserts : (t : Turn) → length ins + length (insertedBy message (t .out .answer)) < 2 ^ 64 → Inserts (w .tunnel .control) (w .store) message t
+          → Then (insertedBy message (t .out .answer)) (t .out .answer) (t .out .control) (t .store)
+      unfolding answeredGrant polledBy caseAnswer numberOf
+      of-inserts t few (nothing i d) =
+          known-same ins _ h g _ k [] polls _ _ _ (none-inserted (t .out .answer) d) (i .plain .granted (length ins) w) refl (i .plain .polled) (i .known ins h g k polls y)
+      of-inserts t few (responds local peer e v) =
+          known-as _ _ h g _ k _ polls _ _ _ (ap (λ (l : List Insertion). ins ++ l) (one-inserted (t .out .answer) (ap numberOf e))) (rw e (append-nil g)) (append-nil k)
+          (rw e (append-nil polls)) (v ins h g k polls (few-inserted (t .out .answer) (ap numberOf e) few) y)
+      of-inserts t few (completes peer counter e v) =
+          known-as _ _ h (g ++ granting (length ins) peer counter 1 ∷ []) _ k _ polls _ _ _
+          (ap (λ (l : List Insertion). ins ++ l) (one-inserted (t .out .answer) (ap numberOf e))) (rw e) (append-nil k) (rw e (append-nil polls))
+          (v ins h g k polls (few-inserted (t .out .answer) (ap numberOf e) few) y)
+
+      of-inserted : (f : Bool) (number : ℕ) (t : Turn) → eqb number 0 ≡ f → (number ≡ 0 → Inserts (w .tunnel .control) (w .store) message t)
+          → length ins + length (insertedBy message (framed-turn now number t .answered .answer)) < 2 ^ 64
+          → Then (insertedBy message (framed-turn now number t .answered .answer)) (framed-turn now number t .answered .answer)
+          (framed-turn now number t .answered .tunnel .control) (framed-turn now number t .store)
+      unfolding framed-turn choose settled refused numberOf
+      of-inserted true number t e i few = rw e (of-inserts t (rw e at few) (i (eqb-true number 0 e)))
+      of-inserted false number t e i few = rw e (next-quiet _ _ (none-inserted (No number) (eqb-false number 0 e)) (turned-down number))
+
+    next-initiation : (peer outcome : ℕ)
+        → length ins + length (insertionBy (initiation peer outcome now) (step w (initiation peer outcome now) .answer)) < 2 ^ 64
+        → Next ins h g k polls w (initiation peer outcome now) (step w (initiation peer outcome now))
+    unfolding step callInitiation timedTurn timed kept framed-turn committing caseBatch wokenGrant caseWaking insertionBy caseMessage
     next-initiation peer outcome few =
-        of-inserted _ (gate (w .tunnel) _ now) _ refl (λ z. inserts-initiation (w .tunnel .control) (w .store) peer (initiationOutcome outcome) now) few
+        of-inserted (insertion false peer now) _ (gate (w .tunnel) _ now) _ refl
+        (λ z. inserts-initiation (w .tunnel .control) (w .store) peer (initiationOutcome outcome) now) few
 
-    next-response : Sound (w .tunnel) → (receiver peer outcome : ℕ) → n + inserts (step w (response receiver peer outcome now) .answer) < 2 ^ 64
-        → Next n h g k w (response receiver peer outcome now) (step w (response receiver peer outcome now))
-    unfolding step callResponse timedTurn timed kept framed-turn committing caseBatch wokenGrant caseWaking
+    next-response : Sound (w .tunnel) → (receiver peer outcome : ℕ)
+        → length ins + length (insertionBy (response receiver peer outcome now) (step w (response receiver peer outcome now) .answer)) < 2 ^ 64
+        → Next ins h g k polls w (response receiver peer outcome now) (step w (response receiver peer outcome now))
+    unfolding step callResponse timedTurn timed kept framed-turn committing caseBatch wokenGrant caseWaking insertionBy caseMessage
     next-response s receiver peer outcome few =
-        of-inserted _ (gate (w .tunnel) _ now) _ refl
+        of-inserted (insertion true peer now) _ (gate (w .tunnel) _ now) _ refl
         (λ z. inserts-response (w .tunnel .control) (w .store) receiver peer (openingOutcome outcome) now
         (λ handshake. response-law (w .tunnel) s handshake (w .store) receiver peer now (gate-law (w .tunnel) _ now .onward z) (y .held .size)))
         few
 
   -- every call
-  pub next : Sound (w .tunnel) → (call : Call) → n + inserts (step w call .answer) < 2 ^ 64 → Next n h g k w call (step w call)
+  pub next : Sound (w .tunnel) → (call : Call) → length ins + length (insertionBy call (step w call .answer)) < 2 ^ 64
+      → Next ins h g k polls w call (step w call)
   next s (start now) few = next-start now
   next s (restart now) few = next-restart now
   next s (send count now) few = next-send count now

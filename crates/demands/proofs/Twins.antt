@@ -19,7 +19,7 @@ use Rattle.tunnel.specs.declared.answer.Answer.{Answer}
 use Rattle.tunnel.specs.declared.control.Control.{Control}
 use Rattle.tunnel.specs.declared.control.Out.{Out}
 use Rattle.demands.specs.Calls.Call.{start, restart, send, receive, look, initiation, response, cookie, timeout, event, deadline, missing}
-use Rattle.demands.specs.Calls.{Call, World, Reply, plain, stored, judged, step}
+use Rattle.demands.specs.Calls.{Call, World, Reply, plain, stored, batched, step}
 use Rattle.demands.specs.Wakings.Alike.{equal, come}
 use Rattle.demands.specs.Wakings.{timeOf, NotEarlier, Alike, Same}
 use Rattle.tunnel.specs.RingBuffer.{ringIsEmpty}
@@ -171,7 +171,7 @@ module _ {latest : ℕ} {p w : World} (h : Twins latest p w) (u : undamaged (p .
       }
 
   batch-pair : (bad is : Bool) (now : ℕ) (verdicts : List ℕ) (batch shall : Batched Out) → latest ≤ now → bad ≡ is → batch ≡ shall
-      → Pair latest (judged (timedBatch (p .tunnel) bad now (p .store) verdicts batch)) (judged (timedBatch (w .tunnel) is now (w .store) verdicts shall))
+      → Pair latest (batched (timedBatch (p .tunnel) bad now (p .store) verdicts batch)) (batched (timedBatch (w .tunnel) is now (w .store) verdicts shall))
   unfolding timedBatch
   batch-pair bad is now verdicts batch shall l b e =
       let k = timed-alike (h .tunnels) u v bad now l is (batch .out) (shall .out) b (ap (λ (x : Batched Out). x .out) e) in

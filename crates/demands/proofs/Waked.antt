@@ -4,7 +4,6 @@ use mathlib.Core.Path.{_≡_, refl, ap, _∙_}
 use mathlib.Core.Bool.{Bool, false}
 use mathlib.Core.List.{List, [], _∷_, _++_}
 use Prim.Native.Nat.{ℕ}
-use native.Mathlib.Omega.{arith}
 use lib.ListN.{length}
 use Rattle.base.proofs.Choice.{of-choice}
 use Rattle.sessions.specs.Cases.{of-found, caseTime}
@@ -19,8 +18,9 @@ use Rattle.demands.proofs.Granting.{Encrypts, encrypts}
 use Rattle.demands.proofs.Held.{Held, held-carried}
 use Rattle.demands.proofs.Known.{Known}
 use Rattle.demands.proofs.Moves.{carried-next, Thinned, thinned-expire, thinned-clear}
-use Rattle.demands.proofs.Queued.{EventGranted}
-use Rattle.demands.specs.Sending.{Grant, granting, keepaliveBy}
+use Rattle.demands.proofs.Queued.{keepaliveIn}
+use Rattle.demands.specs.Made.{caseAnswer, Insertion}
+use Rattle.demands.specs.Sending.{Grant, granting, keepaliveBy, PolledKeepalive, polledBy}
 use Rattle.tunnel.specs.RingBuffer.{pushBack}
 use Rattle.tunnel.specs.declared.event.Event.the-variants.{SendHandshakeInitiation, SendKeepalive, ConnectionExpired}
 use Rattle.tunnel.specs.declared.event.Event.{Event}
@@ -36,28 +36,29 @@ use Rattle.tunnel.specs.HandleTimeout.{Inner, inner, clearAll, expireControl, s
 
 -- an event that is no grant
 pub record Ungranted (event : Event) : Type 0 where
-  pub granted : (k : List Grant) → EventGranted k event
+  pub granted : keepaliveIn event ≡ []
   pub grants : (found : Found) → keepaliveBy found event ≡ []
 
 initiation-none : (local : ℕ) → Ungranted (SendHandshakeInitiation local)
-unfolding keepaliveBy caseEvent
-initiation-none local = record { granted = λ k p q e. (let z : _≡_ {A = ℕ} 0 1 = cc in absurd (omega arith)); grants = λ found. refl }
+unfolding keepaliveBy polledBy caseAnswer caseEvent
+initiation-none local = record { granted = refl; grants = λ found. refl }
 
 module _ (c : Control) (store : List ℕ) where
   -- what a waking does: nothing to the ring, an event without a grant, or a keepalive that the current session grants
   pub data Waked (d : Control) (left : List ℕ) : Type 0 where
-    silent : ((n : ℕ) (h : ℕ → List ℕ) (g : List Grant) → Held n h g (c .sessions) store → Held n h g (d .sessions) left)
+    silent : ((ins : List Insertion) (h : ℕ → List ℕ) (g : List Grant) → Held ins h g (c .sessions) store → Held ins h g (d .sessions) left)
         → d .events ≡ c .events → Waked d left
     queues : (event : Event) → Ungranted event
-        → ((n : ℕ) (h : ℕ → List ℕ) (g : List Grant) → Held n h g (c .sessions) store → Held n h g (d .sessions) left)
+        → ((ins : List Insertion) (h : ℕ → List ℕ) (g : List Grant) → Held ins h g (c .sessions) store → Held ins h g (d .sessions) left)
         → d .events ≡ pushBack (c .events) event → Waked d left
     grants : (x : Session) (peer first : ℕ) → currentOf (c .sessions) ≡ Got x → x .«sending_index» ≡ peer
-        → ((n : ℕ) (h : ℕ → List ℕ) (g k : List Grant) → Known n h g k c store → Held n h (g ++ granting (x .id) peer first 1 ∷ []) (d .sessions) left)
+        → ((ins : List Insertion) (h : ℕ → List ℕ) (g k : List Grant) (polls : List PolledKeepalive) → Known ins h g k polls c store
+        → Held ins h (g ++ granting (x .id) peer first 1 ∷ []) (d .sessions) left)
         → d .events ≡ pushBack (c .events) (SendKeepalive peer first) → Waked d left
 
   -- sessions, a ring and a store on the way, before anything is put into the ring
   pub record From (s : Sessions) (r : RingBuffer) (left : List ℕ) : Type 0 where
-    pub held : (n : ℕ) (h : ℕ → List ℕ) (g : List Grant) → Held n h g (c .sessions) store → Held n h g s left
+    pub held : (ins : List Insertion) (h : ℕ → List ℕ) (g : List Grant) → Held ins h g (c .sessions) store → Held ins h g s left
     pub ring : r ≡ c .events
     pub current : (x : Session) → currentOf s ≡ Got x → currentOf (c .sessions) ≡ Got x
     pub eight : length (s .slots) ≡ 8
@@ -66,7 +67,7 @@ module _ (c : Control) (store : List ℕ) where
   from-thinned : (s t : Sessions) (r : RingBuffer) (mid left : List ℕ) → From s r mid → Thinned s t mid left → From t r left
   from-thinned s t r mid left f y =
       record {
-        held = λ n h g w. held-carried n h g s t mid left (f .held n h g w) (y .carried);
+        held = λ ins h g w. held-carried ins h g s t mid left (f .held ins h g w) (y .carried);
         ring = f .ring;
         current = λ x e. f .current x (y .current x e);
         eight = y .carried .eight ∙ f .eight;
@@ -76,12 +77,12 @@ module _ (c : Control) (store : List ℕ) where
   -- the connection ended
   ended : (d : Control) (left : List ℕ) (now : ℕ) → From (d .sessions) (d .events) left
       → Waked (expireControl d left now .control) (expireControl d left now .store)
-  unfolding expireControl clearAll queueing keepaliveBy caseEvent
+  unfolding expireControl clearAll queueing keepaliveBy polledBy caseAnswer caseEvent
   ended d left now f =
       let t : From (clear (d .sessions) left .sessions) (d .events) (clear (d .sessions) left .store) =
       from-thinned (d .sessions) _ (d .events) left _ f (thinned-clear (d .sessions) left now (f .eight) (f .size)) in
       queues ConnectionExpired
-      (record { granted = λ k p q e. (let z : _≡_ {A = ℕ} 0 1 = cc in absurd (omega arith)); grants = λ found. refl })
+      (record { granted = refl; grants = λ found. refl })
       (t .held) (ap (λ (r : RingBuffer). pushBack r ConnectionExpired) (f .ring))
 
   -- a keepalive queued, if there is a session for it
@@ -93,7 +94,7 @@ module _ (c : Control) (store : List ℕ) where
     of-keepalive e (sends x peer first g q r) =
         rw q
         (grants x peer first (f .current x (g .current)) (g .peer-is)
-        (λ n h l k w. g .known n h l k (record { held = f .held n h l (w .held); queue = rw (f .ring) (w .queue) }) .held)
+        (λ ins h l k polls w. g .known ins h l k polls (record { held = f .held ins h l (w .held); queue = rw (f .ring) (w .queue) }) .held)
         (ap (λ (y : RingBuffer). pushBack y (SendKeepalive peer first)) (r ∙ f .ring)))
 
     queued-keepalive : Waked (queueKeepalive d now) left
@@ -153,7 +154,7 @@ module _ (c : Control) (store : List ℕ) where
     unfolding sendScheduled initiate initiating queueing
     sent-scheduled =
         queues _ (initiation-none _)
-        (λ n h g w. held-carried n h g (c .sessions) _ store store w (carried-next (c .sessions) store)) refl
+        (λ ins h g w. held-carried ins h g (c .sessions) _ store store w (carried-next (c .sessions) store)) refl
 
     of-scheduled : (at : Time) → Waked (caseTime at (expireSessions c store jitter now) (λ at. inner c store) .control)
         (caseTime at (expireSessions c store jitter now) (λ at. inner c store) .store)

@@ -7,80 +7,37 @@ use mathlib.Core.Logic.{_⊎_, inl, inr, ⊎-elim}
 use Prim.Native.Nat.{ℕ, _≤_, _<_}
 use native.Mathlib.Omega.{arith}
 use lib.Dec.{ltb, leb, eqb}
-use borrow.Author.Tests.{le-ltb, lt-leb, eqb-true}
+use borrow.Author.Tests.{lt-leb, eqb-true}
 use Rattle.base.specs.Choice.{choose}
-use Rattle.sessions.specs.Cases.{of-found, of-reserved, caseTime}
-use Rattle.tunnel.specs.Control.{Turn, newControl, refuse, done, expiredControl}
+use Rattle.sessions.specs.Cases.{caseTime}
+use Rattle.tunnel.specs.Control.{Turn, newControl, done, expiredControl}
 use Rattle.tunnel.specs.PollTimeout.{nextDeadline, notBefore, pollTimeout}
-use Rattle.tunnel.specs.Encapsulate as encapsulate
-use Rattle.tunnel.specs.Encapsulate.{grant, finishEncapsulate}
-use Rattle.tunnel.specs.declared.answer.Answer.the-variants.{No, Done, Deadline}
-use Rattle.tunnel.specs.declared.answer.Answer.{Answer}
+use Rattle.tunnel.specs.declared.answer.Answer.the-variants.{Deadline}
 use Rattle.tunnel.specs.declared.control.Control.{Control}
-use Rattle.tunnel.specs.declared.control.Out.{Out}
 use Rattle.demands.proofs.Grown.{sound-created, sound-step}
-use Rattle.demands.proofs.Ran.{ranOf, ran-step}
+use Rattle.demands.proofs.Created.{good-made}
+use Rattle.demands.proofs.Gated.{expired-control}
+use Rattle.demands.proofs.Ran.{ranOf, ran-step, created-ran}
 use Rattle.demands.proofs.Settings.{setting-stays}
 use Rattle.demands.proofs.Twins.{Twins, Pair, calls-alike}
 use Rattle.demands.specs.Calls.Call.{timeout}
-use Rattle.demands.specs.Calls.{Call, World, step, after, Creation, created, Good}
-use Rattle.demands.specs.Wakings.{Step, shared, extra, plainCalls, wokenCalls, Ran, ran, ranAfter, ranNew, Current, Expired, BeforeDeadline, NotEarlier, ComesEarly, CurrentOrUnset, InOrder, Admissible, Same, CreatedAlike, ExtraWakingsLaw}
+use Rattle.demands.specs.Calls.{Call, World, step, after, Creation, created, Expired}
+use Rattle.demands.specs.Wakings.{Step, shared, extra, plainCalls, wokenCalls, Ran, ran, ranAfter, Current, BeforeDeadline, NotEarlier, ComesEarly, CurrentOrUnset, InOrder, Admissible, Same, CreatedAlike, ExtraWakingsLaw}
 use Rattle.tunnel.specs.RingBuffer.{ringIsEmpty}
 use Rattle.tunnel.specs.Timers.{newTimers}
 use Rattle.tunnel.specs.declared.timers.Interval.the-variants.{Off}
-use Rattle.sessions.specs.Session.{dueBy, timeLimit}
+use Rattle.sessions.specs.Session.{dueBy}
 use Rattle.base.specs.Lists.{zeros}
-use Rattle.sessions.specs.declared.session.Session.{Session}
 use Rattle.sessions.specs.declared.session.Time.the-variants.{Never, At}
 use Rattle.sessions.specs.declared.session.Time.{Time}
 use Rattle.tunnel.proofs.Laws.{deadline-law, quiet-law}
 use Rattle.tunnel.proofs.Laws.{undamaged-law, gate-law}
-use Rattle.tunnel.specs.Arguments.{intervalOf, badJitter, creationNumber}
+use Rattle.tunnel.specs.Arguments.{intervalOf, badJitter}
 use Rattle.tunnel.specs.Damage.{undamaged}
 use Rattle.tunnel.specs.Sound.{Sound}
-use Rattle.tunnel.specs.Tunnel.{made, gate, refused, settled, timed, kept, timedTurn, Called, callNew, callSend, callTimeout}
-use Rattle.tunnel.specs.declared.tunnel.Tunnel.{Tunnel}
+use Rattle.tunnel.specs.Tunnel.{newTunnel, gate, refused, settled, timed, kept, timedTurn, callTimeout}
 use Rattle.tunnel.specs.Quiet.{Early}
 use Rattle.tunnel.specs.HandleTimeout.{Inner, handleTimeout}
-
--- a tunnel that would give 11 is expired: no other way of sending gives it
-abbrev NotEleven : Out → Type 0
-NotEleven out = out .answer ≡ No 11 → ⊥
-
-twelve : (answer : Answer) → answer ≡ No 12 → answer ≡ No 11 → ⊥
-twelve answer a b = let z : _≡_ {A = ℕ} 12 11 = cc in omega arith
-
-not-granted : (c : Control) (s : Session) (count now : ℕ) → NotEleven (grant c s count now)
-unfolding grant finishEncapsulate done
-not-granted c s count now =
-    of-reserved NotEleven _ _ _ (λ e. twelve _ refl e) (λ n x e. let z : _≡_ {A = ℕ} 0 1 = cc in omega arith)
-
-of-eleven : (ended : Bool) (c : Control) (rest : Out) → NotEleven rest → choose ended (refuse c 11) rest .answer ≡ No 11 → ended ≡ true
-unfolding choose
-of-eleven true c rest h e = refl
-of-eleven false c rest h e = absurd (h e)
-
-eleven-expired : (c : Control) (count now : ℕ) → encapsulate.send c count now .answer ≡ No 11 → expiredControl c ≡ true
-unfolding encapsulate.send refuse
-eleven-expired c count now e =
-    of-eleven (expiredControl c) c _ (of-found NotEleven _ _ _ (λ z. twelve _ refl z) (λ s. not-granted c s count now)) e
-
--- a call at a time that the checks let through, and one that they turn down
-module _ (t : Tunnel) (bad : Bool) (now : ℕ) where
-  gate-open : undamaged t ≡ true → bad ≡ false → now ≤ timeLimit → t .greatest ≤ now → gate t bad now ≡ 0
-  unfolding gate choose
-  gate-open u b l g = rw (le-ltb timeLimit now l, b, u, le-ltb now (t .greatest) g) refl
-
-  timed-open : (out : Out) → gate t bad now ≡ 0 → timed t bad now out .answer ≡ out .answer
-  unfolding timed settled choose
-  timed-open out e = rw e refl
-
-expired-control : (w : World) → undamaged (w .tunnel) ≡ true → Expired w → expiredControl (w .tunnel .control) ≡ true
-unfolding step callSend
-expired-control w u e =
-    let g = w .tunnel .greatest in
-    let o = gate-open (w .tunnel) false g u refl (undamaged-law .facts (w .tunnel) u .latest) (omega arith) in
-    eleven-expired (w .tunnel .control) 1 g (sym (timed-open (w .tunnel) false g _ o) ∙ e)
 
 -- a time before the reported deadline and not before the last update is before the next deadline
 before-next : (t : Bool) (at last due now : ℕ) → ltb at last ≡ t → At (choose t last at) ≡ At due → now < due → last ≤ now → leb at now ≡ false
@@ -197,7 +154,7 @@ module _ (keepalive : ℕ) {latest : ℕ} (p w : World) (steps : List Step) (h :
     (a : AdmissibleFrom keepalive (ranOf (w .tunnel) (w .store)) w (extra jitter now ∷ steps)) where
   its-early : w .tunnel .greatest ≤ now → expiredControl (w .tunnel .control) ≡ false → Early (w .tunnel .control) now
   its-early g f =
-      let alive : Expired w → ⊥ = λ x. (let y = expired-control w u x in let z : _≡_ {A = ℕ} 0 1 = cc in omega arith) in
+      let alive : Expired w → ⊥ = λ x. (let y = expired-control w x in let z : _≡_ {A = ℕ} 0 1 = cc in omega arith) in
       record {
         waits = ⊎-elim (λ b. before-deadline w now u g b) (λ x. absurd (alive x)) (first-early keepalive _ w steps jitter now a);
         held = ⊎-elim (λ s. inl s) (λ k. inr (off k)) (first-held keepalive _ w steps jitter now a alive);
@@ -209,27 +166,12 @@ module _ (keepalive : ℕ) {latest : ℕ} (p w : World) (steps : List Step) (h :
       left-twins p w h (badJitter jitter (w .store)) now (handleTimeout (w .tunnel .control) (w .store) jitter now)
       (λ g. still-turn (w .tunnel .control) (w .store) jitter now (expiredControl (w .tunnel .control)) refl (its-early g))
 
--- what a creation that is not turned down hands back
-of-good : (t : Bool) (x y : Called) (number : ℕ) → y .answered .answer ≡ No number → choose t x y .answered .answer ≡ Done → choose t x y ≡ x
-unfolding choose
-of-good true x y number n g = refl
-of-good false x y number n g = let z : _≡_ {A = ℕ} 0 1 = cc in absurd (omega arith)
-
-good-made : (c : Creation) → Good c → created c ≡ record { tunnel = made (c .index) (c .keepalive) (c .now); store = zeros 1024 }
-unfolding callNew refused
-good-made c g =
-    ap (λ (x : Called). record { tunnel = x .answered .tunnel; store = x .store }) (of-good _ _ _ (creationNumber (c .store) (c .keepalive) (c .now)) refl g)
-
-made-off : (index keepalive now : ℕ) → keepalive ≡ 0 → made index keepalive now .control .timers .«persistent_keepalive» ≡ Off
-unfolding made newControl newTimers intervalOf choose
+made-off : (index keepalive now : ℕ) → keepalive ≡ 0 → newTunnel index keepalive now .control .timers .«persistent_keepalive» ≡ Off
+unfolding newTunnel newControl newTimers intervalOf choose
 made-off index keepalive now k = rw k refl
 
-made-ran : (c : Creation) → ranNew c ≡ ranOf (made (c .index) (c .keepalive) (c .now)) (zeros 1024)
-unfolding made
-made-ran c = refl
-
 made-twins : (index keepalive now : ℕ) (store : List ℕ)
-    → Twins 0 (record { tunnel = made index keepalive now; store = store }) (record { tunnel = made index keepalive now; store = store })
+    → Twins 0 (record { tunnel = newTunnel index keepalive now; store = store }) (record { tunnel = newTunnel index keepalive now; store = store })
 made-twins index keepalive now store =
     record { tunnels = record { control = refl; older = omega arith; bound = λ time l b. b }; store = refl }
 
@@ -306,7 +248,7 @@ ready-made plain woken steps alike a =
       off = rw w (made-off (woken .index) (woken .keepalive) (woken .now));
       conditions =
           subst (λ (r : Ran). AdmissibleFrom (woken .keepalive) r (created woken) steps)
-          (made-ran woken ∙ sym (ap (λ (x : World). ranOf (x .tunnel) (x .store)) w))
+          (created-ran woken (alike .wakingly))
           (record { early = a .early; held = a .held; order = a .order });
       ordered = λ between later call e now t. omega arith;
     }

@@ -8,7 +8,7 @@ use Prim.Native.Nat.{ℕ}
 use native.Mathlib.Omega.{arith}
 use Rattle.base.specs.Choice.{choose}
 use Rattle.base.specs.First.{noneOf}
-use Rattle.tunnel.specs.Answer.{numberOf}
+use Rattle.tunnel.specs.Answer.{numberOf, timeValues, valuesOf}
 use Rattle.tunnel.specs.Damage.{storedHolds, controlHolds, timeHolds, stateHolds, inRange, intervalHolds, bothAtMost, eventHolds, queueHolds, eventsHold, handshakeHolds, packetTimersHold, dataTimersHold, fieldsHold, timersHold, undamaged}
 use Rattle.tunnel.specs.Control.{newControl, refuse, done, expiredControl, queueing, pollEvent}
 use Rattle.tunnel.specs.PollTimeout.{scheduledHandshake, earliestExpiry, cookieDeadline, rejectDeadline, attemptDeadline, handshakeRekeyTimeout, foundOnSend, foundAfterMessages, foundOnReceive, responseDeadline, passiveDeadline, persistentDeadline, currentPersistentDeadline, commonDeadline, rekeyDeadline, keepaliveDeadline, unscheduledDeadline, nextDeadline, notBefore, pollTimeout}
@@ -22,9 +22,9 @@ use Rattle.tunnel.specs.declared.answer.Answer.the-variants.{No, Initiation, Po
 use Rattle.tunnel.specs.declared.answer.Answer.{Answer}
 use Rattle.demands.proofs.Admits.{isEleven, isAbove, testExpired, testEarly, early-is, testHeld, held-is, noneEarlier, testOrder, order-is}
 use Rattle.demands.specs.Calls.Call.{start, response, timeout, event, deadline}
-use Rattle.demands.specs.Calls.{Call, Good, step, after, created}
+use Rattle.demands.specs.Calls.{Call, Good, step, after, created, Expired}
 use Rattle.demands.specs.Wakings.Alike.{equal, come}
-use Rattle.demands.specs.Wakings.{Step, shared, extra, plainCalls, wokenCalls, took, ran, ranNew, Expired, timeOf, Alike, Agree, CreatedAlike}
+use Rattle.demands.specs.Wakings.{Step, shared, extra, plainCalls, wokenCalls, took, ran, ranNew, timeOf, Alike, Agree, CreatedAlike}
 use Rattle.demands.specs.WakingsExample.{creation, established, used, lost, example, plainAfter, wokenAfter, ExtraWakingsExample, late, unheld, disordered, ConditionsNeeded}
 use Rattle.sessions.specs.Damage.{slotHolds, slotsHold}
 use Rattle.tunnel.specs.Handshake.{newHandshake, awaits, isInProgress, inFlightInitiation, setExpired, isExpired, cookieExpiration, appendMac1AndMac2, initiateHandshake, expects, receiveHandshakeResponse, expireCookie}
@@ -40,7 +40,7 @@ use Rattle.base.specs.Lists.{zeros}
 use Rattle.sessions.specs.declared.session.Time.the-variants.{At}
 use Rattle.sessions.specs.declared.session.Time.{Time}
 use Rattle.tunnel.specs.Arguments.{intervalOf, openingOutcome, lacking, badOutcome, badJitter, creationNumber}
-use Rattle.tunnel.specs.Tunnel.{made, gate, timelessGate, refused, settled, timed, timeless, kept, timedTurn, callNew, callStart, callSend, callResponse, callTimeout, callEvent, callDeadline}
+use Rattle.tunnel.specs.Tunnel.{newTunnel, gate, timelessGate, refused, settled, timed, timeless, kept, timedTurn, callNew, callStart, callSend, callResponse, callTimeout, callEvent, callDeadline}
 use Rattle.tunnel.specs.HandleTimeout.{clearAll, expireControl, scheduling, queueKeepalive, keepaliveDue, passiveTimers, keepaliveTimers, sendKeepalive, keepaliveIfDue, rekeyDue, rekeyOrKeepalive, giveUpOrRetry, maintainConnection, isLost, isReplaced, expireSessions, sendScheduled, handleDue, handleTimeout}
 
 -- what the two tunnels, with a keepalive of so many seconds, answer to a call after some steps
@@ -69,10 +69,10 @@ record Computed : Type 0 where
   held : testHeld 3600 (ranNew (creation 1 3600)) (created (creation 1 3600)) example ≡ true
   order : testOrder example ≡ true
   through : step (wokenAfter established) (timeout 0 130000000000) .world .tunnel .greatest ≡ 130000000000
-  refused : step (wokenAfter (established ++ extra 0 130000000000 ∷ [])) (timeout 0 129000000000) .answer ≡ No 13
+  refused : numberOf (step (wokenAfter (established ++ extra 0 130000000000 ∷ [])) (timeout 0 129000000000) .answer) ≡ 13
   ended : Expired (wokenAfter lost)
-  plainly : step (plainAfter used) deadline .answer ≡ Deadline (At 120001000000)
-  wakingly : step (wokenAfter used) deadline .answer ≡ Deadline (At 130000000000)
+  plainly : valuesOf (step (plainAfter used) deadline .answer) ≡ 120001000000 ∷ []
+  wakingly : valuesOf (step (wokenAfter used) deadline .answer) ≡ 130000000000 ∷ []
   unset : Good (creation 0 0)
   wokenUnset : Good (creation 1 0)
   kept : Good (creation 0 25)
@@ -91,7 +91,7 @@ record Computed : Type 0 where
   disorderedWoken : wokenAnswer 0 disorderedFirst (start 5000000000) ≡ No 13
 
 computed : Computed
-unfolding choose wrappingIncrement caseTime caseRole caseReserved dueBy least earlier newSession emptySession rekeyAfterTimeOnSend rejectAfterTimeOnReceive expiresAt expiredAt shouldUseAt rekeyAfterMessagesReached sendingCounterExhausted preparePacketData reserveCounters caseFound caseSelected emptySlots newSessions inSlotOf get put currentOf inCurrentSlot indexAfter nextIndex inserting insert usable sendingSession isIndex select setCurrent clear emptied expiredSlot discard expireSlot expireFirst expire noneOf slotExpiry firstExpiry putSlot zeros numberOf intervalOf openingOutcome lacking badOutcome badJitter creationNumber timeHolds stateHolds inRange intervalHolds bothAtMost eventHolds slotHolds slotsHold queueHolds eventsHold handshakeHolds packetTimersHold dataTimersHold fieldsHold timersHold storedHolds controlHolds undamaged newControl refuse done expiredControl queueing pollEvent scheduledHandshake earliestExpiry cookieDeadline rejectDeadline attemptDeadline handshakeRekeyTimeout foundOnSend foundAfterMessages foundOnReceive responseDeadline passiveDeadline persistentDeadline currentPersistentDeadline commonDeadline rekeyDeadline keepaliveDeadline unscheduledDeadline nextDeadline notBefore pollTimeout caseEvent caseState caseCompleted newHandshake awaits isInProgress inFlightInitiation setExpired isExpired cookieExpiration appendMac1AndMac2 initiateHandshake expects receiveHandshakeResponse confirming establish complete handleHandshakeResponse initiating initiate restartHandshake startHandshake placeOf emptyPlaces newRing ringIsEmpty storeAt pushBack popFront eventsFrom queued caseInterval newTimers rejectAfterTimeOf rekeyAttemptDeadline rekeyAfterTimeWithoutResponse keepaliveAfterTimeWithoutSend nextPersistentKeepalive clearTimers tickLastHandshakeCompleted tickLastHandshakeStarted tickLastPacketReceived tickLastPacketSent getOr tickLastDataPacketSent tickPersistentKeepalive rekeyTimeoutOf scheduleHandshake cancelScheduledHandshake consumePassiveKeepalive tickCompleted tickInitiation caseDatagram beginEncapsulate finishEncapsulate grant encryptKeepalive confirmFirstSession made gate timelessGate refused settled timed timeless kept timedTurn callNew callStart callSend callResponse callTimeout callEvent callDeadline clearAll expireControl scheduling queueKeepalive keepaliveDue passiveTimers keepaliveTimers sendKeepalive keepaliveIfDue rekeyDue rekeyOrKeepalive giveUpOrRetry expireCookie maintainConnection isLost isReplaced expireSessions sendScheduled handleDue handleTimeout encapsulate.send step after plainCalls wokenCalls took ran timeOf established used lost example late unheld disordered isEleven isAbove testExpired testEarly testHeld noneEarlier testOrder
+unfolding choose wrappingIncrement caseTime caseRole caseReserved dueBy least earlier newSession emptySession rekeyAfterTimeOnSend rejectAfterTimeOnReceive expiresAt expiredAt shouldUseAt rekeyAfterMessagesReached sendingCounterExhausted preparePacketData reserveCounters caseFound caseSelected emptySlots newSessions inSlotOf get put currentOf inCurrentSlot indexAfter nextIndex inserting insert usable sendingSession isIndex select setCurrent clear emptied expiredSlot discard expireSlot expireFirst expire noneOf slotExpiry firstExpiry putSlot zeros numberOf timeValues valuesOf intervalOf openingOutcome lacking badOutcome badJitter creationNumber timeHolds stateHolds inRange intervalHolds bothAtMost eventHolds slotHolds slotsHold queueHolds eventsHold handshakeHolds packetTimersHold dataTimersHold fieldsHold timersHold storedHolds controlHolds undamaged newControl refuse done expiredControl queueing pollEvent scheduledHandshake earliestExpiry cookieDeadline rejectDeadline attemptDeadline handshakeRekeyTimeout foundOnSend foundAfterMessages foundOnReceive responseDeadline passiveDeadline persistentDeadline currentPersistentDeadline commonDeadline rekeyDeadline keepaliveDeadline unscheduledDeadline nextDeadline notBefore pollTimeout caseEvent caseState caseCompleted newHandshake awaits isInProgress inFlightInitiation setExpired isExpired cookieExpiration appendMac1AndMac2 initiateHandshake expects receiveHandshakeResponse confirming establish complete handleHandshakeResponse initiating initiate restartHandshake startHandshake placeOf emptyPlaces newRing ringIsEmpty storeAt pushBack popFront eventsFrom queued caseInterval newTimers rejectAfterTimeOf rekeyAttemptDeadline rekeyAfterTimeWithoutResponse keepaliveAfterTimeWithoutSend nextPersistentKeepalive clearTimers tickLastHandshakeCompleted tickLastHandshakeStarted tickLastPacketReceived tickLastPacketSent getOr tickLastDataPacketSent tickPersistentKeepalive rekeyTimeoutOf scheduleHandshake cancelScheduledHandshake consumePassiveKeepalive tickCompleted tickInitiation caseDatagram beginEncapsulate finishEncapsulate grant encryptKeepalive confirmFirstSession newTunnel gate timelessGate refused settled timed timeless kept timedTurn callNew callStart callSend callResponse callTimeout callEvent callDeadline clearAll expireControl scheduling queueKeepalive keepaliveDue passiveTimers keepaliveTimers sendKeepalive keepaliveIfDue rekeyDue rekeyOrKeepalive giveUpOrRetry expireCookie maintainConnection isLost isReplaced expireSessions sendScheduled handleDue handleTimeout encapsulate.send step after plainCalls wokenCalls took ran timeOf established used lost example late unheld disordered isEleven isAbove testExpired testEarly testHeld noneEarlier testOrder
 computed =
     record {
       good = refl;

@@ -6,8 +6,8 @@ use Rattle.sessions.specs.declared.session.Session.{Session}
 use Rattle.base.specs.Lists.{zeros}
 use Rattle.sessions.specs.Session.{newSession}
 use Rattle.sessions.specs.Sessions.{Held, newSessions, insert}
-use Rattle.demands.specs.History.{BatchCall, LiveBatch}
-use Rattle.demands.specs.History.{outcome}
+use Rattle.demands.specs.History.{BatchCall, BatchFor}
+use Rattle.demands.specs.History.{receives}
 
 -- a session established at time 0
 unfoldable pub firstSession : Session
@@ -33,5 +33,5 @@ example =
 
 -- The call is for a live session with an empty history, and its verdicts are 0, 0 and 10.
 pub record BatchExampleLaw : Type 0 where
-  pub live : LiveBatch example firstSession []
-  pub verdicts : outcome example .verdicts ≡ 0 ∷ 0 ∷ 10 ∷ []
+  pub live : BatchFor example firstSession []
+  pub verdicts : receives example .verdicts ≡ 0 ∷ 0 ∷ 10 ∷ []

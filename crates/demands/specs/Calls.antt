@@ -3,7 +3,7 @@ use mathlib.Core.Path.{_≡_}
 use mathlib.Core.List.{List, [], _∷_}
 use Prim.Native.Nat.{ℕ}
 use Rattle.sessions.specs.Batch.{Batched}
-use Rattle.tunnel.specs.declared.answer.Answer.the-variants.{Done}
+use Rattle.tunnel.specs.Answer.{numberOf}
 use Rattle.tunnel.specs.declared.answer.Answer.{Answer}
 use Rattle.tunnel.specs.Tunnel.{Called, callNew, callStart, callRestart, callSend, callReceive, callLook, callInitiation, callResponse, callCookie, callTimeout, callEvent, callDeadline, callMissing}
 use Rattle.tunnel.specs.declared.tunnel.Answered.{Answered}
@@ -42,8 +42,8 @@ abbrev pub stored : Called → Reply
 stored c = plain (c .store) (c .answered)
 
 -- what a batch hands back
-abbrev pub judged : Batched Answered → Reply
-judged c =
+abbrev pub batched : Batched Answered → Reply
+batched c =
     record { world = record { tunnel = c .out .tunnel; store = c .store }; answer = c .out .answer; verdicts = c .verdicts }
 
 -- what a call hands back
@@ -52,7 +52,7 @@ step w (start now) = plain (w .store) (callStart (w .tunnel) now)
 step w (restart now) = plain (w .store) (callRestart (w .tunnel) now)
 step w (send count now) = plain (w .store) (callSend (w .tunnel) count now)
 step w (receive index id now counters kinds verdicts) =
-    judged (callReceive (w .tunnel) (w .store) index id now counters kinds verdicts)
+    batched (callReceive (w .tunnel) (w .store) index id now counters kinds verdicts)
 step w (look index counter now) = plain (w .store) (callLook (w .tunnel) (w .store) index counter now)
 step w (initiation peer outcome now) = stored (callInitiation (w .tunnel) (w .store) peer outcome now)
 step w (response receiver peer outcome now) = stored (callResponse (w .tunnel) (w .store) receiver peer outcome now)
@@ -84,4 +84,8 @@ created c = record { tunnel = creating c .answered .tunnel; store = creating c .
 
 -- a creation that is not turned down
 abbrev pub Good : Creation → Type 0
-Good c = creating c .answered .answer ≡ Done
+Good c = numberOf (creating c .answered .answer) ≡ 0
+
+-- expired: a send of one counter at the greatest time would give 11
+abbrev pub Expired : World → Type 0
+Expired w = numberOf (step w (send 1 (w .tunnel .greatest)) .answer) ≡ 11

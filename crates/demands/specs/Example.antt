@@ -1,14 +1,16 @@
 -- A list of calls of which demand 2's statements speak, so that what they ask can be met: a handshake, data sent, a batch with a counter twice,
--- a jump that clears the window, a keepalive queued by a waking and polled; then a batch for the live session.
+-- a jump that clears the window, a keepalive queued by a waking and polled; then a batch for the live session, and a send that it can meet.
 use mathlib.Core.Path.{_≡_}
-use mathlib.Core.List.{List, [], _∷_}
+use mathlib.Core.Bool.{true}
+use mathlib.Core.List.{List, [], _∷_, _++_}
 use Prim.Native.Nat.{_^_, _<_}
-use Rattle.tunnel.specs.declared.answer.Answer.the-variants.{Polled, Report}
+use Rattle.tunnel.specs.declared.answer.Answer.the-variants.{Polled}
 use Rattle.demands.specs.Calls.Call.{start, send, receive, response, timeout, event, missing}
 use Rattle.demands.specs.Calls.{Call, World, step, after, Creation, created, Good}
-use Rattle.demands.specs.Made.{made, insertions}
+use Rattle.demands.specs.Made.{made, insertion, inserted, insertions}
 use Rattle.demands.specs.Receiving.{historyOf, Batch, receiving, Live}
-use Rattle.demands.specs.Sending.{wokenGrants, granting, grants, countersOf}
+use Rattle.demands.specs.Sending.{wokenGrants, granting, grants, countersOf, polling, polled, CanSend, sendAfter}
+use Rattle.tunnel.specs.Answer.{numberOf, valuesOf}
 use Rattle.tunnel.specs.declared.event.Event.the-variants.{SendKeepalive}
 use Rattle.base.specs.Lists.{zeros}
 
@@ -48,14 +50,24 @@ batch =
       verdicts = 0 ∷ 0 ∷ 0 ∷ 0 ∷ [];
     }
 
--- The premises hold, and the session's history, grants, verdicts, keepalive and missing report are these.
+-- The premises hold, and the session's history, grants, verdicts, keepalive, sends and missing report are these.
 pub record ExampleLaw : Type 0 where
   pub good : Good creation
   pub few : insertions (made (created creation) calls) < 2 ^ 64
   pub live : Live here batch 1
   pub history : historyOf 0 (created creation) calls ≡ 8960 ∷ 5 ∷ 0 ∷ []
   pub verdicts : step here (receiving batch) .verdicts ≡ 9 ∷ 10 ∷ 0 ∷ 7 ∷ []
+  -- session 0 was inserted by the response, to this tunnel's own initiation
+  pub messages : inserted (made (created creation) calls) ≡ insertion true 9 1000000 ∷ []
   pub counters : countersOf 0 (grants (made (created creation) calls)) ≡ 0 ∷ 1 ∷ 2 ∷ 3 ∷ 4 ∷ []
   pub keepalives : wokenGrants (made (created creation) calls) ≡ granting 0 9 4 1 ∷ []
-  pub polled : step here event .answer ≡ Polled (SendKeepalive 9 4)
-  pub report : step here (missing 257) .answer ≡ Report 8191
+  -- the keepalive is not polled by the calls, but by one more event call
+  pub unpolled : polled (made (created creation) calls) ≡ []
+  pub answered : step here event .answer ≡ Polled (SendKeepalive 9 4)
+  pub polls : polled (made (created creation) (calls ++ event ∷ [])) ≡ polling 9 4 ∷ []
+  -- two counters can be sent, and are the next ones; no two can be once the session is older than 170 s
+  pub canSend : CanSend creation calls 2 12000000000
+  pub sent : valuesOf (sendAfter creation calls 2 12000000000) ≡ 9 ∷ 5 ∷ 2 ∷ []
+  pub cannotSend : CanSend creation calls 2 170001000001 → ⊥
+  pub late : numberOf (sendAfter creation calls 2 170001000001) ≡ 12
+  pub report : valuesOf (step here (missing 257) .answer) ≡ 8191 ∷ []

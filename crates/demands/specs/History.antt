@@ -2,11 +2,10 @@
 use mathlib.Core.Path.{_≡_}
 use mathlib.Core.Bool.{true, false}
 use mathlib.Core.List.{List, [], _∷_}
-use Prim.Native.Nat.{ℕ, _+_, _-_, _≤_, _<_}
+use Prim.Native.Nat.{ℕ, _+_, _-_, _^_, _≤_, _<_}
 use lib.Dec.{eqb}
 use lib.ListN.{length}
 use Rattle.base.specs.Choice.{choose}
-use Rattle.window.specs.Window.{limit}
 use Rattle.window.specs.History.{member, expected, judged, amongLast, Represents}
 use Rattle.sessions.specs.declared.session.Session.{Session}
 use Rattle.sessions.specs.declared.sessions.Found.the-variants.{Got}
@@ -44,11 +43,11 @@ verdictsOn history (counter ∷ counters) (kind ∷ kinds) =
 abbrev pub Stands : List ℕ → Sessions → List ℕ → ℕ → Type 0
 Stands history s store slot = Represents history (slotWords store slot) (slotAt s slot .next)
 
--- Verdict 0 is for a message that opened, whose counter is below LIMIT, at most 8,192 behind the next expected one and not in the history, and for no other.
+-- Verdict 0 is for a message that opened, whose counter is below 2^64 - 8,193, at most 8,192 behind the next expected one and not in the history, and for no other.
 pub record VerdictLaw (history : List ℕ) (counter kind : ℕ) : Type 0 where
-  pub commits : (kind ≡ 2 → ⊥) → counter < limit → expected history ≤ counter + 8192 → member counter history ≡ false → verdictOn history counter kind ≡ 0
+  pub commits : (kind ≡ 2 → ⊥) → counter < 2 ^ 64 - 8193 → expected history ≤ counter + 8192 → member counter history ≡ false → verdictOn history counter kind ≡ 0
   pub only : verdictOn history counter kind ≡ 0
-      → (kind ≡ 2 → ⊥) × (counter < limit) × (expected history ≤ counter + 8192) × (member counter history ≡ false)
+      → (kind ≡ 2 → ⊥) × (counter < 2 ^ 64 - 8193) × (expected history ≤ counter + 8192) × (member counter history ≡ false)
   pub failed : kind ≡ 2 → verdictOn history counter kind ≡ 7
 
 -- the arguments of a call for a batch
@@ -63,11 +62,11 @@ pub record BatchCall : Type 0 where
   pub verdicts : List ℕ
 
 -- what a call for a batch hands back
-abbrev pub outcome : BatchCall → Batched Received
-outcome c = receive (c .sessions) (c .store) (c .index) (c .id) (c .now) (c .counters) (c .kinds) (c .verdicts)
+abbrev pub receives : BatchCall → Batched Received
+receives c = receive (c .sessions) (c .store) (c .index) (c .id) (c .now) (c .counters) (c .kinds) (c .verdicts)
 
 -- a call with a whole ring and store and lists that make a batch, for a live session whose slot stands for a history
-pub record LiveBatch (c : BatchCall) (session : Session) (history : List ℕ) : Type 0 where
+pub record BatchFor (c : BatchCall) (session : Session) (history : List ℕ) : Type 0 where
   pub eight : length (c .sessions .slots) ≡ 8
   pub size : length (c .store) ≡ 1024
   pub batch : fits (c .counters) (c .kinds) (c .verdicts) ≡ true
@@ -78,9 +77,9 @@ pub record LiveBatch (c : BatchCall) (session : Session) (history : List ℕ) : 
 pub record BatchLaw (c : BatchCall) (history : List ℕ) : Type 0 where
   pub session : Session
   pub progress : Progress
-  pub judged : outcome c .out ≡ Judged session progress
-  pub judges : outcome c .verdicts ≡ verdictsOn history (c .counters) (c .kinds)
-  pub stands : Stands (recordedAll history (c .counters) (outcome c .verdicts)) (put (c .sessions) session) (outcome c .store) (slotOf (c .index))
+  pub received : receives c .out ≡ Judged session progress
+  pub judges : receives c .verdicts ≡ verdictsOn history (c .counters) (c .kinds)
+  pub stands : Stands (recordedAll history (c .counters) (receives c .verdicts)) (put (c .sessions) session) (receives c .store) (slotOf (c .index))
 
 -- A session just inserted with next 0 stands for the empty history.
 pub record InsertedLaw (s : Sessions) (store : List ℕ) (session : Session) : Type 0 where

@@ -1,11 +1,17 @@
 -- The calls that were made, each with what it was handed and what it handed back.
-use mathlib.Core.List.{List, [], _∷_}
-use Prim.Native.Nat.{ℕ, _+_}
+use mathlib.Core.Bool.{Bool, true, false}
+use mathlib.Core.List.{List, [], _∷_, _++_}
+use Prim.Native.Nat.{ℕ}
+use lib.Dec.{eqb}
+use lib.ListN.{length, getD}
+use Rattle.base.specs.Choice.{choose}
+use Rattle.tunnel.specs.Answer.{numberOf}
 use Rattle.tunnel.specs.declared.answer.Answer.the-variants.{No, Done, NoAnswer, Initiation, Response, Keepalive, Granted, Polled, Deadline, Report}
 use Rattle.tunnel.specs.declared.answer.Answer.{Answer}
 use Rattle.demands.specs.Calls.Call.{start, restart, send, receive, look, initiation, response, cookie, timeout, event, deadline, missing}
 use Rattle.demands.specs.Calls.{Call, World, Reply, step}
 use Rattle.sessions.specs.declared.range.Range.{Range}
+use Rattle.tunnel.specs.declared.event.Event.{Event}
 
 -- a call that was made: the tunnel and the store just before it, the call, and what it handed back
 pub record Made : Type 0 where
@@ -53,25 +59,61 @@ module _ {A : Type 0} where
   caseWaking deadline y x = x
   caseWaking (missing index) y x = x
 
-  -- one value for each range granted by a send, one for each keepalive that a response was answered with, one for an incoming initiation
-  -- answered good, one for every other answer
-  unfoldable pub caseAnswer : Answer → (Range → A) → (ℕ → ℕ → A) → A → A → A
-  caseAnswer (Granted range) f g y x = f range
-  caseAnswer (Keepalive peer counter) f g y x = g peer counter
-  caseAnswer (Response local peer) f g y x = y
-  caseAnswer (No number) f g y x = x
-  caseAnswer Done f g y x = x
-  caseAnswer NoAnswer f g y x = x
-  caseAnswer (Initiation local) f g y x = x
-  caseAnswer (Polled polled) f g y x = x
-  caseAnswer (Deadline time) f g y x = x
-  caseAnswer (Report count) f g y x = x
+  -- one value for each response's peer and time, one for each incoming initiation's, one for every other call
+  unfoldable pub caseMessage : Call → (ℕ → ℕ → A) → (ℕ → ℕ → A) → A → A
+  caseMessage (response receiver peer outcome now) f g x = f peer now
+  caseMessage (initiation peer outcome now) f g x = g peer now
+  caseMessage (start now) f g x = x
+  caseMessage (restart now) f g x = x
+  caseMessage (send count now) f g x = x
+  caseMessage (receive index id now counters kinds verdicts) f g x = x
+  caseMessage (look index counter now) f g x = x
+  caseMessage (cookie receiver outcome now) f g x = x
+  caseMessage (timeout jitter now) f g x = x
+  caseMessage event f g x = x
+  caseMessage deadline f g x = x
+  caseMessage (missing index) f g x = x
 
--- 1 for the good answer to a response or to an incoming initiation, which inserts a session, else 0
-unfoldable pub inserts : Answer → ℕ
-inserts answer = caseAnswer answer (λ range. 0) (λ peer counter. 1) 1 0
+  -- one value for each range granted by a send, one for each keepalive that a response was answered with, one for each event, one for every
+  -- other answer
+  unfoldable pub caseAnswer : Answer → (Range → A) → (ℕ → ℕ → A) → (Event → A) → A → A
+  caseAnswer (Granted range) f g e x = f range
+  caseAnswer (Keepalive peer counter) f g e x = g peer counter
+  caseAnswer (Polled answered) f g e x = e answered
+  caseAnswer (No number) f g e x = x
+  caseAnswer Done f g e x = x
+  caseAnswer NoAnswer f g e x = x
+  caseAnswer (Initiation local) f g e x = x
+  caseAnswer (Response local peer) f g e x = x
+  caseAnswer (Deadline time) f g e x = x
+  caseAnswer (Report count) f g e x = x
 
--- the number of good responses and good incoming initiations
-unfoldable pub insertions : List Made → ℕ
-insertions [] = 0
-insertions (m ∷ later) = inserts (m .reply .answer) + insertions later
+-- a handshake message that inserted a session: whether this tunnel had initiated, the peer's index given with it, and its time
+pub record Insertion : Type 0 where
+  pub initiated : Bool
+  pub peer : ℕ
+  pub at : ℕ
+
+-- an insertion of these
+abbrev pub insertion : Bool → (peer at : ℕ) → Insertion
+insertion initiated peer at = record { initiated = initiated; peer = peer; at = at }
+
+-- the insertion of a call: a response or an incoming initiation that was answered good
+unfoldable pub insertionBy : Call → Answer → List Insertion
+insertionBy call answer =
+    choose (eqb (numberOf answer) 0)
+    (caseMessage call (λ peer now. insertion true peer now ∷ []) (λ peer now. insertion false peer now ∷ []) [])
+    []
+
+-- the insertions in the order of the calls; a session's id is its place
+unfoldable pub inserted : List Made → List Insertion
+inserted [] = []
+inserted (m ∷ later) = insertionBy (m .call) (m .reply .answer) ++ inserted later
+
+-- the number of insertions
+abbrev pub insertions : List Made → ℕ
+insertions calls = length (inserted calls)
+
+-- the handshake message that inserted the session of an id
+abbrev pub messageOf : ℕ → List Made → Insertion
+messageOf id calls = getD (inserted calls) id (insertion false 0 0)

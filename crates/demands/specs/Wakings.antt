@@ -13,12 +13,12 @@ use Rattle.tunnel.specs.HandleHandshake.{handleHandshakeInitiation, handleHands
 use Rattle.tunnel.specs.Encapsulate as encapsulate
 use Rattle.tunnel.specs.Decapsulate as decapsulate
 use Rattle.tunnel.specs.HandleTimeout.{handleTimeout}
-use Rattle.tunnel.specs.declared.answer.Answer.the-variants.{No, Deadline}
+use Rattle.tunnel.specs.declared.answer.Answer.the-variants.{Deadline}
 use Rattle.tunnel.specs.declared.answer.Answer.{Answer}
 use Rattle.tunnel.specs.declared.control.Control.{Control}
 use Rattle.tunnel.specs.declared.control.Out.{Out}
 use Rattle.demands.specs.Calls.Call.{start, restart, send, receive, look, initiation, response, cookie, timeout, event, deadline, missing}
-use Rattle.demands.specs.Calls.{Call, World, Reply, step, after, Creation, created, Good}
+use Rattle.demands.specs.Calls.{Call, World, Reply, step, after, Creation, created, Good, Expired}
 use Rattle.sessions.specs.Session.{timeLimit}
 use Rattle.sessions.specs.Sessions.{currentOf}
 use Rattle.base.specs.Lists.{zeros}
@@ -99,10 +99,6 @@ ranNew c = record { control = newControl (c .index) (intervalOf (c .keepalive)) 
 -- current: the Rust has a current session, its slot still filled
 abbrev pub Current : Ran → Type 0
 Current r = (session : Session) × (currentOf (r .control .sessions) ≡ Got session)
-
--- expired: a send of one counter at the greatest time would give 11
-abbrev pub Expired : World → Type 0
-Expired w = step w (send 1 (w .tunnel .greatest)) .answer ≡ No 11
 
 -- earlier than the deadline that the tunnel would report just then
 abbrev pub BeforeDeadline : World → ℕ → Type 0

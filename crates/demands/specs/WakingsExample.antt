@@ -4,11 +4,10 @@ use mathlib.Core.Path.{_≡_}
 use mathlib.Core.List.{List, [], _∷_, _++_}
 use Prim.Native.Nat.{ℕ}
 use lib.ListN.{replicate}
-use Rattle.tunnel.specs.declared.answer.Answer.the-variants.{No, Deadline}
+use Rattle.tunnel.specs.Answer.{numberOf, valuesOf}
 use Rattle.demands.specs.Calls.Call.{start, send, response, timeout, event, deadline}
-use Rattle.demands.specs.Calls.{World, step, after, Creation, created}
-use Rattle.demands.specs.Wakings.{Step, shared, extra, plainCalls, wokenCalls, ranNew, Expired, ComesEarly, CurrentOrUnset, InOrder, Admissible, Agree, CreatedAlike}
-use Rattle.sessions.specs.declared.session.Time.the-variants.{At}
+use Rattle.demands.specs.Calls.{World, step, after, Creation, created, Expired}
+use Rattle.demands.specs.Wakings.{Step, shared, extra, plainCalls, wokenCalls, ranNew, ComesEarly, CurrentOrUnset, InOrder, Admissible, Agree, CreatedAlike}
 
 -- a creation at time 0 with a keepalive of so many seconds, over a store that has this number in each word
 abbrev pub creation : (word keepalive : ℕ) → Creation
@@ -43,11 +42,11 @@ pub record ExtraWakingsExample : Type 0 where
   pub admissible : Admissible (creation 1 3600) example
   -- the waking at 130 s is let through and raises the greatest time, that at 129 s is refused, that at 700 s finds the tunnel expired
   pub through : step (wokenAfter established) (timeout 0 130000000000) .world .tunnel .greatest ≡ 130000000000
-  pub refused : step (wokenAfter (established ++ extra 0 130000000000 ∷ [])) (timeout 0 129000000000) .answer ≡ No 13
+  pub refused : numberOf (step (wokenAfter (established ++ extra 0 130000000000 ∷ [])) (timeout 0 129000000000) .answer) ≡ 13
   pub ended : Expired (wokenAfter lost)
   -- at 131 s the two tunnels answer deadlines that differ and have both come
-  pub plainly : step (plainAfter used) deadline .answer ≡ Deadline (At 120001000000)
-  pub wakingly : step (wokenAfter used) deadline .answer ≡ Deadline (At 130000000000)
+  pub plainly : valuesOf (step (plainAfter used) deadline .answer) ≡ 120001000000 ∷ []
+  pub wakingly : valuesOf (step (wokenAfter used) deadline .answer) ≡ 130000000000 ∷ []
 
 -- a waking just at the deadline, 540 s after the creation
 unfoldable pub late : List Step

@@ -11,10 +11,10 @@ ghost use Rattle.sessions.specs.declared.sessions.Sessions.{Sessions};
 ghost use Rattle.demands.specs.BatchExample.{BatchExampleLaw};
 ghost use Rattle.demands.specs.Example.{ExampleLaw};
 ghost use Rattle.demands.specs.Grown.{Grown};
-ghost use Rattle.demands.specs.History.{VerdictLaw, BatchCall, LiveBatch, BatchLaw, InsertedLaw, CountLaw};
+ghost use Rattle.demands.specs.History.{VerdictLaw, BatchCall, BatchFor, BatchLaw, InsertedLaw, CountLaw};
 ghost use Rattle.demands.specs.Marked.{holdAll, marked};
 ghost use Rattle.demands.specs.Missing.{MissingReport};
-ghost use Rattle.demands.specs.Receiving.{Receiving};
+ghost use Rattle.demands.specs.Receiving.{Receiving, OnlyLive};
 ghost use Rattle.demands.specs.Sending.{Sending};
 ghost use Rattle.demands.specs.Wakings.{ExtraWakingsLaw};
 ghost use Rattle.demands.specs.WakingsExample.{ExtraWakingsExample, ConditionsNeeded};
@@ -34,6 +34,11 @@ pub fn receiving_law()
     ensures { λ r. ⌜ Receiving ⌝ }
 {}
 
+// And a batch that is answered good was for a live session.
+pub fn only_live_law()
+    ensures { λ r. ⌜ OnlyLive ⌝ }
+{}
+
 // A message is given verdict 0 exactly if it opened and its counter is below the limit, not too old and not in the history.
 pub fn verdict_law()
     ensures { λ r. ⌜ ((history : List ℕ) (counter kind : ℕ) → VerdictLaw history counter kind) ⌝ }
@@ -41,7 +46,7 @@ pub fn verdict_law()
 
 // A batch gives each message the verdict that the session's history calls for, the batch's earlier messages included.
 pub fn batch_law()
-    ensures { λ r. ⌜ ((call : BatchCall) (session : Session) (history : List ℕ) → LiveBatch call session history → BatchLaw call history) ⌝ }
+    ensures { λ r. ⌜ ((call : BatchCall) (session : Session) (history : List ℕ) → BatchFor call session history → BatchLaw call history) ⌝ }
 {}
 
 // There is a call of which the batch's law speaks: counters 0, 5 and 0 again to a session just inserted give 0, 0 and 10.

@@ -48,14 +48,14 @@ fn make_room(waiting: usize, out: &[u8]) -> usize {
 // The line that was gathered; one that is too long cannot be read.
 fn gathered_line(console: Console, line: &[u8], counters: &mut [u64], kinds: &mut [u8]) -> Line {
     let gathered = console.gathered;
-    let length = gathered.length;
+    let len = gathered.len;
     if gathered.long {
         return Line::Unreadable;
     }
-    if length > line.len() {
+    if len > line.len() {
         return Line::Unreadable;
     }
-    admitted(read(&line[..length], counters, kinds), console.started)
+    admitted(read(&line[..len], counters, kinds), console.started)
 }
 
 // Whether a tunnel has been made once a line is answered.

@@ -13,7 +13,7 @@ use tunnel::event::Event;
 fn put_range(out: &mut [u8], at: usize, range: Range) -> usize {
     let second = put_number(out, at, range.peer as u64);
     let third = put_number(out, second, range.first);
-    put_number(out, third, range.length)
+    put_number(out, third, range.len)
 }
 
 // The words that an answer begins with.
@@ -80,7 +80,7 @@ fn reply_of_range(range: Range) -> Reply {
         count: 3,
         first: range.peer as u64,
         second: range.first,
-        third: range.length,
+        third: range.len,
     }
 }
 
@@ -205,12 +205,8 @@ fn put_split(out: &mut [u8], at: usize, split: Split) -> usize {
 }
 
 // Puts the parts of a range that a line cuts.
-fn put_cut(out: &mut [u8], at: usize, peer: u32, first: u64, length: u64, cut: u64) -> usize {
-    let range = Range {
-        peer,
-        first,
-        length,
-    };
+fn put_cut(out: &mut [u8], at: usize, peer: u32, first: u64, len: u64, cut: u64) -> usize {
+    let range = Range { peer, first, len };
     put_split(out, at, range.split_off(cut))
 }
 
@@ -241,10 +237,10 @@ fn put_reply(out: &mut [u8], at: usize, line: Line, answer: Answer, verdicts: &[
     if let Line::Split {
         peer,
         first,
-        length,
+        len,
         at: cut,
     } = line {
-        return put_cut(out, at, peer, first, length, cut);
+        return put_cut(out, at, peer, first, len, cut);
     }
     put_answer(out, at, answer)
 }

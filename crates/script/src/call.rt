@@ -136,7 +136,7 @@ pub fn call(
         Line::Split {
             peer: _,
             first: _,
-            length: _,
+            len: _,
             at: _,
         } => return Answered {
             tunnel,

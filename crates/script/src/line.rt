@@ -67,7 +67,7 @@ pub enum Line {
     Split {
         peer: u32,
         first: u64,
-        length: u64,
+        len: u64,
         at: u64,
     },
 }
@@ -125,7 +125,7 @@ fn line_of(name: Name, n: Numbers, messages: usize) -> Line {
         Name::Split => Line::Split {
             peer: index,
             first: n.second,
-            length: n.third,
+            len: n.third,
             at: n.fourth,
         },
     }

@@ -9,7 +9,7 @@ use native.Mathlib.Omega.{arith}
 use lib.Dec.{ltb, eqb}
 use lib.ListN.{length, getD, set, take, drop, length-set, drop-of-length-le}
 use lib.Seq.{drop-cons, take-suc-set, take-all, append-snoc}
-use borrow.Author.Tests.{eq-eqb, ne-eqb, eqb-true}
+use borrow.Author.Tests.{eq-eqb, ne-eqb}
 use borrow.Rule.Slice.PartMut.{putMid}
 use Rattle.base.specs.Choice.{choose}
 use Rattle.window.specs.Window.{willAccept, nextAfter, wordsAfter, markDidReceive, Marks}
@@ -58,21 +58,6 @@ module _ (kinds : List ℕ) (i : ℕ) (good : Bool) (inv : known kinds ≡ choos
   pub all-known : length kinds ≤ i → good ≡ known kinds
   unfolding known
   all-known h = sym (inv ∙ rw (drop-of-length-le kinds {i = i} h) (known-good good))
-
--- lists that make a batch are of one length
-long : (counters kinds verdicts : List ℕ) (over b d : Bool) → eqb (length kinds) (length counters) ≡ b → eqb (length verdicts) (length counters) ≡ d
-    → choose over false (choose b (choose d (known kinds) false) false) ≡ true → (length kinds ≡ length counters) × (length verdicts ≡ length counters)
-unfolding choose
-long counters kinds verdicts true b d q r e = absurd (let z : _≡_ {A = ℕ} 0 1 = cc in omega arith)
-long counters kinds verdicts false true true q r e = (eqb-true (length kinds) (length counters) q, eqb-true (length verdicts) (length counters) r)
-long counters kinds verdicts false true false q r e = absurd (let z : _≡_ {A = ℕ} 0 1 = cc in omega arith)
-long counters kinds verdicts false false d q r e = absurd (let z : _≡_ {A = ℕ} 0 1 = cc in omega arith)
-
-pub fits-long : (counters kinds verdicts : List ℕ) (f : Bool) → f ≡ fits counters kinds verdicts → f ≡ true
-    → (length kinds ≡ length counters) × (length verdicts ≡ length counters)
-unfolding fits
-fits-long counters kinds verdicts f e p =
-    long counters kinds verdicts (ltb 1024 (length counters)) (eqb (length kinds) (length counters)) (eqb (length verdicts) (length counters)) refl refl (sym e ∙ p)
 
 -- one message
 module _ (words : List ℕ) (progress : Progress) (counter kind : ℕ) where
@@ -131,8 +116,8 @@ message-done words progress counters kinds verdicts i last f l =
     record { out = ap (λ (x : Finished). x .progress) (l .out); words = l .words; list = ap (λ (x : Finished). set verdicts i (x .verdict)) (l .out) }
 
 -- what a batch comes to with verdicts given before
-abbrev pub after : List ℕ → Batched Progress → Batched Progress
-after verdicts b = record { out = b .out; store = b .store; verdicts = verdicts ++ b .verdicts }
+abbrev pub preceded : List ℕ → Batched Progress → Batched Progress
+preceded verdicts b = record { out = b .out; store = b .store; verdicts = verdicts ++ b .verdicts }
 
 -- a batch under way: what it comes to is the verdicts given so far and what is left to do
 pub record Going (came : List ℕ) (start : Progress) (counters kinds : List ℕ) (words verdicts : List ℕ) (progress : Progress) (i : ℕ) : Type 0 where
@@ -140,7 +125,7 @@ pub record Going (came : List ℕ) (start : Progress) (counters kinds : List ℕ
   pub kinds-long : length kinds ≡ length counters
   pub verdicts-long : length verdicts ≡ length counters
   pub words-long : length words ≡ length came
-  pub rest : finishAll came start counters kinds ≡ after (take i verdicts) (finishAll words progress (drop i counters) (drop i kinds))
+  pub rest : finishAll came start counters kinds ≡ preceded (take i verdicts) (finishAll words progress (drop i counters) (drop i kinds))
 
 module _ (came : List ℕ) (start : Progress) (counters kinds : List ℕ) where
   pub batch-begins : (verdicts : List ℕ) → length kinds ≡ length counters → length verdicts ≡ length counters
@@ -153,7 +138,7 @@ module _ (came : List ℕ) (start : Progress) (counters kinds : List ℕ) where
 
     -- the next message in front of the rest
     next-message : i < length counters → finishAll words progress (drop i counters) (drop i kinds)
-        ≡ after (message .finished .verdict ∷ []) (finishAll (message .words) (message .finished .progress) (drop (suc i) counters) (drop (suc i) kinds))
+        ≡ preceded (message .finished .verdict ∷ []) (finishAll (message .words) (message .finished .progress) (drop (suc i) counters) (drop (suc i) kinds))
     unfolding finishAll
     next-message h = rw (drop-cons counters i 0 h, drop-cons kinds i 0 (omega (arith, g .kinds-long)))
 
@@ -165,7 +150,7 @@ module _ (came : List ℕ) (start : Progress) (counters kinds : List ℕ) where
           kinds-long = g .kinds-long;
           verdicts-long = ap length (f .list) ∙ simp length-set (g .verdicts-long);
           words-long = same ∙ g .words-long;
-          rest = g .rest ∙ ap (after (take i verdicts)) (next-message h)
+          rest = g .rest ∙ ap (preceded (take i verdicts)) (next-message h)
               ∙ rw (add-one, ← f .out, ← f .words, f .list, take-suc-set verdicts i _ (omega (arith, g .verdicts-long)), append-snoc);
         }
 

@@ -7,8 +7,8 @@ use native.Mathlib.Omega.{arith}
 use lib.ListN.{length, getD}
 use Rattle.base.proofs.Counting.{upFrom-at}
 use Rattle.window.specs.Window.{limit}
-use Rattle.sessions.specs.Batch.{fits}
-use Rattle.sessions.specs.Laws.{SlotsApart, NextIndexLaw, EmptyLaw, LookupLaw, SlotLaw, WholeLaw, ExpiryLaw, FitsLaw, NextLaw}
+use Rattle.sessions.specs.Batch.{receivingSession}
+use Rattle.sessions.specs.Laws.{SlotsApart, NextIndexLaw, EmptyLaw, LookupLaw, SlotLaw, WholeLaw, ExpiryLaw, FitsLaw, LookLaw, NextLaw, RejectedLaw, EmptyBatchLaw, ReserveLaw, SplitLaw}
 use Rattle.sessions.specs.declared.batch.Progress.{Progress}
 use Rattle.sessions.specs.Reservations.{granted, ReservationLaw}
 use Rattle.sessions.specs.Sessions.{inCurrentSlot}
@@ -16,13 +16,17 @@ use Rattle.sessions.specs.declared.session.Session.{Session}
 use Rattle.sessions.specs.declared.sessions.Sessions.{Sessions}
 use Rattle.sessions.proofs.Apart.{kept-insert, kept-expire}
 use Rattle.sessions.proofs.Indices.{first, takes-first, takes-second, other-slot, same-upper, goes-on-from}
-use Rattle.sessions.proofs.Lookups.{got-slot, current-slot, sending-current, received-slot}
+use Rattle.sessions.proofs.Lookups.{got-slot, current-slot, received-slot}
+use Rattle.sessions.proofs.Looks.{look-numbers}
 use Rattle.sessions.proofs.Loops.{expire-none}
 use Rattle.sessions.proofs.Received.{batch-within, kept-receive}
 use Rattle.sessions.proofs.Reservations.{Counts, counts-all}
 use Rattle.sessions.proofs.Wholes.{insert-whole, clear-whole, expire-whole, receive-whole}
 use Rattle.sessions.proofs.Words.{length-put, slot-same, slot-other}
-use Rattle.sessions.proofs.Batches.{fits-long}
+use Rattle.sessions.proofs.Turned.{fits-batch, batch-fits, rejected, empty-leaves}
+use Rattle.sessions.proofs.Usable.{sending-may, may-sending, in-received, reserve-grants, reserve-refuses, cut-empty, cut-nowhere, cut-beyond, cut-good, cut-whole, cut-parts}
+use Rattle.sessions.specs.declared.range.Range.{Range}
+use lib.Dec.{eqb}
 use Rattle.sessions.specs.Session.{emptySession}
 use mathlib.Core.Bool.{true≢false}
 
@@ -67,8 +71,10 @@ lookup-law s =
     record {
       found = got-slot s;
       current = current-slot s;
-      sending = sending-current s;
+      sending = sending-may s;
+      sends = may-sending s;
       receiving = received-slot s;
+      receives = in-received s;
     }
 
 -- words put into a slot
@@ -92,10 +98,38 @@ expiry-law s store now = record { none = expire-none s now store }
 
 -- lists that make a batch
 pub fits-law : (counters kinds verdicts : List ℕ) → FitsLaw counters kinds verdicts
-fits-law counters kinds verdicts =
+fits-law counters kinds verdicts = record { batch = fits-batch counters kinds verdicts; fitting = batch-fits counters kinds verdicts }
+
+-- the early look
+pub look-law : (s : Session) (store : List ℕ) (receiver counter : ℕ) → length store ≡ 1024 → LookLaw s store receiver counter
+look-law s store receiver counter l = record { numbers = look-numbers s store receiver counter l }
+
+-- a batch that is turned down
+pub rejected-law : (s : Sessions) (store : List ℕ) (index id now : ℕ) (counters kinds verdicts : List ℕ) → RejectedLaw s store index id now counters kinds verdicts
+rejected-law s store index id now counters kinds verdicts =
     record {
-      kinds-long = λ e. fits-long counters kinds verdicts (fits counters kinds verdicts) refl e .0;
-      verdicts-long = λ e. fits-long counters kinds verdicts (fits counters kinds verdicts) refl e .1;
+      words = λ number e. rejected s store index id now counters kinds verdicts number e .words;
+      list = λ number e. rejected s store index id now counters kinds verdicts number e .list;
+    }
+
+-- an empty batch
+pub empty-batch-law : (s : Sessions) (store : List ℕ) (index id now : ℕ) → EmptyBatchLaw s store index id now
+empty-batch-law s store index id now = empty-leaves s store index id now (eqb (length store) 1024) (receivingSession s index id now) refl refl
+
+-- the counters that are left
+pub reserve-law : (s : Session) (len : ℕ) → ReserveLaw s len
+reserve-law s len = record { grants = reserve-grants s len; refuses = reserve-refuses s len }
+
+-- a cut
+pub split-law : (r : Range) (at : ℕ) → SplitLaw r at
+split-law r at =
+    record {
+      empty = cut-empty r at;
+      uncut = cut-nowhere r at (eqb (r .len) 0) refl;
+      beyond = cut-beyond r at (eqb (r .len) 0) (eqb at 0) refl refl;
+      good = cut-good r at;
+      whole = cut-whole r at;
+      parts = cut-parts r at;
     }
 
 -- the window's next after the messages of a batch

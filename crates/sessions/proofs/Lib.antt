@@ -3,11 +3,14 @@ pub mod Batches
 pub mod Indices
 pub mod Laws
 pub mod Lookups
+pub mod Looks
 pub mod Loops
 pub mod Ones
 pub mod Received
 pub mod Reservations
 pub mod Sums
+pub mod Turned
+pub mod Usable
 pub mod Ways
 pub mod Wholes
 pub mod Words

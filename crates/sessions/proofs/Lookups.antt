@@ -2,10 +2,10 @@
 -- Assumes nothing.
 use mathlib.Core.Path.{_≡_, refl, ap, sym, _∙_}
 use mathlib.Core.Bool.{Bool, true, false}
-use Prim.Native.Nat.{ℕ}
+use Prim.Native.Nat.{ℕ, _+_, _<_}
 use native.Mathlib.Omega.{arith}
-use lib.Dec.{eqb}
-use borrow.Author.Tests.{eqb-true}
+use lib.Dec.{leb, eqb}
+use borrow.Author.Tests.{leb-false, eqb-true}
 use Rattle.base.specs.Choice.{choose}
 use Rattle.sessions.specs.Cases.{caseRole, caseFound, caseSelected}
 use Rattle.sessions.specs.Batch.{receivingSession}
@@ -59,22 +59,26 @@ module _ (s : Sessions) where
   current-slot x e = current-in (s .current) x e
 
   -- the session that a batch is for
-  of-live : (a b : Bool) (x y : Session) → choose a (choose b Nothing (Got x)) Nothing ≡ Got y → (a ≡ true) × (x ≡ y)
+  of-live : (a b : Bool) (x y : Session) → choose a (choose b Nothing (Got x)) Nothing ≡ Got y → (a ≡ true) × (b ≡ false) × (x ≡ y)
   unfolding choose
   of-live true true x y e = let z : _≡_ {A = ℕ} 0 1 = cc in absurd (omega arith)
-  of-live true false x y e = (refl, (cc))
+  of-live true false x y e = (refl, refl, (cc))
   of-live false b x y e = let z : _≡_ {A = ℕ} 0 1 = cc in absurd (omega arith)
 
   received-in : (index id now : ℕ) (found : Found) (x : Session) → get s index ≡ found
       → caseFound found Nothing (λ (y : Session). choose (eqb (y .id) id) (choose (expiredAt y now) Nothing (Got y)) Nothing) ≡ Got x
-      → InSlot s index x × (x .id ≡ id)
-  unfolding caseFound
+      → InSlot s index x × (x .id ≡ id) × (now < x .«established_at» + 180000000000)
+  unfolding caseFound expiredAt
   received-in index id now Nothing x p q = let z : _≡_ {A = ℕ} 0 1 = cc in absurd (omega arith)
   received-in index id now (Got y) x p q =
-      let a : (eqb (y .id) id ≡ true) × (y ≡ x) = of-live _ _ y x q in
-      (got-slot index x (p ∙ ap Got (a .1)), ap (λ (z : Session). z .id) (sym (a .1)) ∙ eqb-true _ _ (a .0))
+      let a : (eqb (y .id) id ≡ true) × (leb (y .«established_at» + 180000000000) now ≡ false) × (y ≡ x) = of-live _ _ y x q in (
+        got-slot index x (p ∙ ap Got (a .2)),
+        ap (λ (z : Session). z .id) (sym (a .2)) ∙ eqb-true _ _ (a .0),
+        rw (← a .2) (leb-false (y .«established_at» + 180000000000) now (a .1)),
+      )
 
-  pub received-slot : (index id now : ℕ) (x : Session) → receivingSession s index id now ≡ Got x → InSlot s index x × (x .id ≡ id)
+  pub received-slot : (index id now : ℕ) (x : Session) → receivingSession s index id now ≡ Got x
+      → InSlot s index x × (x .id ≡ id) × (now < x .«established_at» + 180000000000)
   unfolding receivingSession
   received-slot index id now x e = received-in index id now (get s index) x refl e
 

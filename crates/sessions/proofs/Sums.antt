@@ -47,17 +47,17 @@ module _ (s : Session) (time : ℕ) where
   age-usable h = same-le (time - s .«established_at») 170000000000 (time + keepaliveTimeout) (s .«established_at» + rejectAfterTime) (λ p. omega arith) (λ p. omega arith)
 
 module _ (r : Range) where
-  pub above-long : limit < r .length → true ≡ endsAboveLimit r
+  pub above-long : limit < r .len → true ≡ endsAboveLimit r
   unfolding endsAboveLimit
-  above-long h = sym (lt-ltb limit (r .first + r .length) (omega arith))
+  above-long h = sym (lt-ltb limit (r .first + r .len) (omega arith))
 
-  pub above-is : r .length ≤ limit → ltb (limit - r .length) (r .first) ≡ endsAboveLimit r
+  pub above-is : r .len ≤ limit → ltb (limit - r .len) (r .first) ≡ endsAboveLimit r
   unfolding endsAboveLimit
-  above-is h = same-le (suc (limit - r .length)) (r .first) (suc limit) (r .first + r .length) (λ p. omega arith) (λ p. omega arith)
+  above-is h = same-le (suc (limit - r .len)) (r .first) (suc limit) (r .first + r .len) (λ p. omega arith) (λ p. omega arith)
 
-  pub cut-fits : (f : Bool) (at : ℕ) → f ≡ endsAboveLimit r → f ≡ false → at < r .length → r .first + at < 2 ^ 64
+  pub cut-fits : (f : Bool) (at : ℕ) → f ≡ endsAboveLimit r → f ≡ false → at < r .len → r .first + at < 2 ^ 64
   unfolding endsAboveLimit
-  cut-fits f at e p h = omega (arith, ltb-false limit (r .first + r .length) (sym e ∙ p))
+  cut-fits f at e p h = omega (arith, ltb-false limit (r .first + r .len) (sym e ∙ p))
 
 -- what a granted reservation answers
 abbrev grant : Session → ℕ → Reserved

@@ -1,9 +1,11 @@
--- What follows from the definitions: what the lookups find, which slots a call touches, how many words it leaves, and which index is allocated.
+-- What follows from the definitions: what the lookups find, which slots a call touches, how many words it leaves, which index is allocated, which
+-- lists make a batch, which counters are left, and how a range is cut.
 use mathlib.Core.Path.{_≡_}
 use mathlib.Core.Bool.{true, false}
-use mathlib.Core.List.{List}
-use lib.ListN.{length}
-use Prim.Native.Nat.{ℕ, _/_, _≤_}
+use mathlib.Core.List.{List, [], _∷_}
+use mathlib.Core.Logic.{_⊎_}
+use lib.ListN.{length, getD}
+use Prim.Native.Nat.{ℕ, _+_, _-_, _/_, _^_, _≤_, _<_}
 use Rattle.sessions.specs.declared.session.Session.{Session}
 use Rattle.sessions.specs.declared.sessions.Found.the-variants.{Nothing, Got}
 use Rattle.sessions.specs.declared.sessions.Sessions.{Sessions}
@@ -13,7 +15,12 @@ use Rattle.sessions.specs.Sessions.{slotAt, get, currentOf, sendingSessi
 use Rattle.sessions.specs.Batch.{fits, finishAll, receivingSession, receive}
 use Rattle.window.specs.Window.{limit}
 use Rattle.sessions.specs.declared.batch.Progress.{Progress}
-use Rattle.sessions.specs.Session.{emptySession}
+use Rattle.sessions.specs.Range.{splitOff, splitNumber, splitValues}
+use Rattle.sessions.specs.Session.{emptySession, withCounter, reserveCounters, willReceive}
+use Rattle.sessions.specs.declared.batch.Received.the-variants.{Rejected, Judged}
+use Rattle.sessions.specs.declared.range.Range.{Range}
+use Rattle.sessions.specs.declared.session.Reserved.the-variants.{TooFew, First}
+use Rattle.sessions.specs.declared.session.Role.the-variants.{Initiator}
 use Rattle.sessions.specs.Cases.{caseReceived}
 
 -- a slot has the same record and the same words before and after
@@ -51,6 +58,13 @@ pub record InSlot (s : Sessions) (index : ℕ) (x : Session) : Type 0 where
   pub filled : x .filled ≡ true
   pub named : x .«receiving_index» ≡ index
 
+-- A session may send at this time: a counter below 2^64 - 8,193 is left, it is younger than 180 s, and at most 170 s old where this tunnel
+-- initiated it.
+pub record MaySend (x : Session) (now : ℕ) : Type 0 where
+  pub counter : x .«sending_key_counter» < 2 ^ 64 - 8193
+  pub young : now < x .«established_at» + 180000000000
+  pub prompt : x .role ≡ Initiator → now ≤ x .«established_at» + 170000000000
+
 -- The record of an empty slot is not filled.
 pub record EmptyLaw : Type 0 where
   pub unfilled : (x : Session) → x ≡ emptySession → x .filled ≡ true → ⊥
@@ -61,10 +75,16 @@ pub record LookupLaw (s : Sessions) : Type 0 where
   pub found : (index : ℕ) (x : Session) → get s index ≡ Got x → InSlot s index x
   -- the current session fills its slot
   pub current : (x : Session) → currentOf s ≡ Got x → InSlot s (x .«receiving_index») x
-  -- the session for sending is the current one
-  pub sending : (now : ℕ) (x : Session) → sendingSession s now ≡ Got x → currentOf s ≡ Got x
-  -- the session for a batch has the index and the id
-  pub receiving : (index id now : ℕ) (x : Session) → receivingSession s index id now ≡ Got x → InSlot s index x × (x .id ≡ id)
+  -- the session for sending is the current one, and may send
+  pub sending : (now : ℕ) (x : Session) → sendingSession s now ≡ Got x → (currentOf s ≡ Got x) × MaySend x now
+  -- a current session that may send is found for sending
+  pub sends : (now : ℕ) (x : Session) → currentOf s ≡ Got x → MaySend x now → sendingSession s now ≡ Got x
+  -- the session for a batch has the index and the id, and is younger than 180 s
+  pub receiving : (index id now : ℕ) (x : Session) → receivingSession s index id now ≡ Got x
+      → InSlot s index x × (x .id ≡ id) × (now < x .«established_at» + 180000000000)
+  -- a session that fills its slot, has the index and the id and is younger than 180 s is found for a batch
+  pub receives : (index now : ℕ) (x : Session) → InSlot s index x → now < x .«established_at» + 180000000000
+      → receivingSession s index (x .id) now ≡ Got x
 
 -- What words put into a slot leave: the store's length, the slot's words where they are 128, and every other slot's.
 pub record SlotLaw (store words : List ℕ) (slot : ℕ) : Type 0 where
@@ -83,11 +103,57 @@ pub record WholeLaw (s : Sessions) (store : List ℕ) : Type 0 where
 pub record ExpiryLaw (s : Sessions) (store : List ℕ) (now : ℕ) : Type 0 where
   pub none : noneExpired s now ≡ true → expire s store now ≡ expiring (record { sessions = s; current = Nothing }) store
 
--- Lists that make a batch are of one length.
+-- Lists that make a batch: of one length, of at most 1,024 messages, each of one of the three kinds.
+pub record IsBatch (counters kinds verdicts : List ℕ) : Type 0 where
+  pub kinds-long : length kinds ≡ length counters
+  pub verdicts-long : length verdicts ≡ length counters
+  pub most : length counters ≤ 1024
+  pub known : (i : ℕ) → i < length kinds → getD kinds i 0 ≤ 2
+
+-- The test of a batch's lists is true just where they make a batch.
 pub record FitsLaw (counters kinds verdicts : List ℕ) : Type 0 where
-  pub kinds-long : fits counters kinds verdicts ≡ true → length kinds ≡ length counters
-  pub verdicts-long : fits counters kinds verdicts ≡ true → length verdicts ≡ length counters
+  pub batch : fits counters kinds verdicts ≡ true → IsBatch counters kinds verdicts
+  pub fitting : IsBatch counters kinds verdicts → fits counters kinds verdicts ≡ true
+
+-- The early look of a session over a store of 1,024 words gives 0, 6, 9 or 10.
+pub record LookLaw (s : Session) (store : List ℕ) (receiver counter : ℕ) : Type 0 where
+  pub numbers : (willReceive s store receiver counter ≡ 0) ⊎ (willReceive s store receiver counter ≡ 6) ⊎ (willReceive s store receiver counter ≡ 9)
+      ⊎ (willReceive s store receiver counter ≡ 10)
+
+-- A batch that is turned down leaves the store and the verdict list as they came.
+pub record RejectedLaw (s : Sessions) (store : List ℕ) (index id now : ℕ) (counters kinds verdicts : List ℕ) : Type 0 where
+  pub words : (number : ℕ) → receive s store index id now counters kinds verdicts .out ≡ Rejected number
+      → receive s store index id now counters kinds verdicts .store ≡ store
+  pub list : (number : ℕ) → receive s store index id now counters kinds verdicts .out ≡ Rejected number
+      → receive s store index id now counters kinds verdicts .verdicts ≡ verdicts
+
+-- An empty batch leaves the session that it is for, the store and the verdict list as they were, and accepts nothing.
+pub record EmptyBatchLaw (s : Sessions) (store : List ℕ) (index id now : ℕ) : Type 0 where
+  pub answer : (session : Session) (progress : Progress) → receive s store index id now [] [] [] .out ≡ Judged session progress
+      → (put s session ≡ s) × (progress .accepted ≡ false)
+  pub words : receive s store index id now [] [] [] .store ≡ store
+  pub list : receive s store index id now [] [] [] .verdicts ≡ []
 
 -- The messages of a batch keep the window's next at most LIMIT.
 pub record NextLaw (words : List ℕ) (progress : Progress) (counters kinds : List ℕ) : Type 0 where
   pub within : progress .next ≤ limit → finishAll words progress counters kinds .out .next ≤ limit
+
+-- A session has counters left up to 2^64 - 8,193, and grants them from its send counter on.
+pub record ReserveLaw (s : Session) (len : ℕ) : Type 0 where
+  pub grants : s .«sending_key_counter» + len ≤ 2 ^ 64 - 8193
+      → reserveCounters s len ≡ First (s .«sending_key_counter») (withCounter s (s .«sending_key_counter» + len))
+  pub refuses : 2 ^ 64 - 8193 < s .«sending_key_counter» + len → reserveCounters s len ≡ TooFew
+
+-- What a cut of a range answers, in document 01's numbers and values:
+pub record SplitLaw (r : Range) (at : ℕ) : Type 0 where
+  -- 2 where the length or the cut is 0 or the range ends above 2^64 - 8,193
+  pub empty : r .len ≡ 0 → splitNumber (splitOff r at) ≡ 2
+  pub uncut : at ≡ 0 → splitNumber (splitOff r at) ≡ 2
+  pub beyond : 2 ^ 64 - 8193 < r .first + r .len → splitNumber (splitOff r at) ≡ 2
+  -- and only there
+  pub good : 1 ≤ r .len → 1 ≤ at → r .first + r .len ≤ 2 ^ 64 - 8193 → splitNumber (splitOff r at) ≡ 0
+  -- nothing at the whole length or beyond
+  pub whole : splitNumber (splitOff r at) ≡ 0 → r .len ≤ at → splitValues (splitOff r at) ≡ []
+  -- below it the counters before the cut, and those from it on, both for the same peer
+  pub parts : splitNumber (splitOff r at) ≡ 0 → at < r .len
+      → splitValues (splitOff r at) ≡ r .peer ∷ r .first ∷ at ∷ r .peer ∷ (r .first + at) ∷ (r .len - at) ∷ []

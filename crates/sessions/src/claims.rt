@@ -7,7 +7,8 @@ ghost use Rattle.sessions.specs.Reservations.{ReservationLaw};
 ghost use lib.ListN.{length};
 ghost use Rattle.sessions.specs.declared.batch.Progress.{Progress};
 ghost use Rattle.sessions.specs.declared.sessions.Sessions.{Sessions};
-ghost use Rattle.sessions.specs.Laws.{SlotsApart, NextIndexLaw, EmptyLaw, LookupLaw, SlotLaw, WholeLaw, ExpiryLaw, FitsLaw, NextLaw};
+ghost use Rattle.sessions.specs.Laws.{SlotsApart, NextIndexLaw, EmptyLaw, LookupLaw, SlotLaw, WholeLaw, ExpiryLaw, FitsLaw, LookLaw, NextLaw, RejectedLaw, EmptyBatchLaw, ReserveLaw, SplitLaw};
+ghost use Rattle.sessions.specs.declared.range.Range.{Range};
 
 // The counters that a session grants to any list of reservations are 0, 1, 2 on, all below the limit.
 pub fn reservation_law()
@@ -49,12 +50,37 @@ pub fn expiry_law()
     ensures { λ r. ⌜ ((s : Sessions) (store : List ℕ) (now : ℕ) → ExpiryLaw s store now) ⌝ }
 {}
 
-// Lists that make a batch are of one length.
+// The test of a batch is true just where its lists are of one length, of at most 1,024 messages, each of a known kind.
 pub fn fits_law()
     ensures { λ r. ⌜ ((counters kinds verdicts : List ℕ) → FitsLaw counters kinds verdicts) ⌝ }
+{}
+
+// The early look of a session over a store of 1,024 words gives 0, 6, 9 or 10.
+pub fn look_law()
+    ensures { λ r. ⌜ ((s : Session) (store : List ℕ) (receiver counter : ℕ) → length store ≡ 1024 → LookLaw s store receiver counter) ⌝ }
 {}
 
 // The messages of a batch keep the window's next at most the limit.
 pub fn next_law()
     ensures { λ r. ⌜ ((words : List ℕ) (progress : Progress) (counters kinds : List ℕ) → NextLaw words progress counters kinds) ⌝ }
+{}
+
+// A batch that is turned down leaves the store and the verdict list as they came.
+pub fn rejected_law()
+    ensures { λ r. ⌜ ((s : Sessions) (store : List ℕ) (index id now : ℕ) (counters kinds verdicts : List ℕ) → RejectedLaw s store index id now counters kinds verdicts) ⌝ }
+{}
+
+// An empty batch leaves the session, the store and the verdict list as they were.
+pub fn empty_batch_law()
+    ensures { λ r. ⌜ ((s : Sessions) (store : List ℕ) (index id now : ℕ) → EmptyBatchLaw s store index id now) ⌝ }
+{}
+
+// A session grants counters as long as they end at the limit at most.
+pub fn reserve_law()
+    ensures { λ r. ⌜ ((s : Session) (len : ℕ) → ReserveLaw s len) ⌝ }
+{}
+
+// What a cut of a range answers, in numbers and values.
+pub fn split_law()
+    ensures { λ r. ⌜ ((range : Range) (at : ℕ) → SplitLaw range at) ⌝ }
 {}

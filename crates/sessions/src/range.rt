@@ -8,7 +8,7 @@ pub struct Range {
     // The peer's index.
     pub peer: u32,
     pub first: u64,
-    pub length: u64,
+    pub len: u64,
 }
 
 // What cutting a range answers: that number 2 turns the call down, nothing, or the two parts.
@@ -23,17 +23,17 @@ impl Range {
     fn ends_above_limit(self) -> bool
         ensures { λ r. ⌜ r ≡ endsAboveLimit self ⌝ }
     {
-        if self.length > REJECT_AFTER_MESSAGES {
+        if self.len > REJECT_AFTER_MESSAGES {
             return true;
         }
-        self.first > REJECT_AFTER_MESSAGES - self.length
+        self.first > REJECT_AFTER_MESSAGES - self.len
     }
 
     // Splits off the counters from `at` onwards. At the whole length or beyond it answers nothing.
     pub fn split_off(self, at: u64) -> Split
         ensures { λ r. ⌜ r ≡ splitOff self at ⌝ }
     {
-        if self.length == 0 {
+        if self.len == 0 {
             return Split::Invalid;
         }
         if at == 0 {
@@ -42,19 +42,19 @@ impl Range {
         if self.ends_above_limit() {
             return Split::Invalid;
         }
-        if at >= self.length {
+        if at >= self.len {
             return Split::Whole;
         }
         Split::Parts(
             Range {
                 peer: self.peer,
                 first: self.first,
-                length: at,
+                len: at,
             },
             Range {
                 peer: self.peer,
                 first: self.first + at,
-                length: self.length - at,
+                len: self.len - at,
             },
         )
     }

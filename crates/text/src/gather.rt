@@ -5,7 +5,7 @@ ghost use Rattle.text.specs.Place.{Onward};
 
 // A line so far: how many bytes of the buffer it has, or that the buffer was too small.
 pub struct Gathered {
-    pub length: usize,
+    pub len: usize,
     pub long: bool,
 }
 
@@ -38,7 +38,7 @@ impl Gathered {
     // A line with no bytes.
     pub fn new() -> Gathered {
         Gathered {
-            length: 0,
+            len: 0,
             long: false,
         }
     }
@@ -48,30 +48,30 @@ impl Gathered {
         if self.long {
             return true;
         }
-        self.length > 0
+        self.len > 0
     }
 
     // The line with one more part.
     pub fn append(self, line: &mut [u8], part: &[u8]) -> Gathered {
-        let from = self.length;
+        let from = self.len;
         if self.long {
             return self;
         }
         if from > line.len() {
             return Gathered {
-                length: from,
+                len: from,
                 long: true,
             };
         }
         if part.len() > line.len() - from {
             return Gathered {
-                length: from,
+                len: from,
                 long: true,
             };
         }
         copy(&mut line[from..], part);
         Gathered {
-            length: from + part.len(),
+            len: from + part.len(),
             long: false,
         }
     }

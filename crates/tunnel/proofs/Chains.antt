@@ -3,7 +3,7 @@
 use mathlib.Core.Path.{_≡_, _∙_}
 use mathlib.Core.Bool.{false}
 use Prim.Native.Nat.{ℕ}
-use Rattle.tunnel.specs.Control.{control, withEvents, outcome, newControl, queueing, pollEvent}
+use Rattle.tunnel.specs.Control.{control, withEvents, outOf, newControl, queueing, pollEvent}
 use Rattle.tunnel.specs.PollTimeout.{earliestExpiry, cookieDeadline, rejectDeadline, handshakeRekeyTimeout, foundOnSend, foundAfterMessages, foundOnReceive, responseDeadline, passiveDeadline, currentPersistentDeadline, commonDeadline, rekeyDeadline, keepaliveDeadline}
 use Rattle.tunnel.specs.declared.answer.Answer.the-variants.{Polled}
 use Rattle.tunnel.specs.declared.control.Control.{Control}
@@ -25,7 +25,7 @@ use Rattle.sessions.specs.declared.sessions.Sessions.{Sessions}
 use Rattle.base.specs.Choice.{choose}
 use Rattle.tunnel.specs.declared.control.Out.{Out}
 use Rattle.tunnel.specs.Arguments.{intervalOf}
-use Rattle.tunnel.specs.Tunnel.{answered, made, settled}
+use Rattle.tunnel.specs.Tunnel.{answered, newTunnel, settled}
 use Rattle.tunnel.specs.declared.tunnel.Tunnel.{Tunnel}
 
 -- a creation
@@ -41,7 +41,7 @@ module _ (c : Control) where
   chain-queued event e p = rw p
 
   pub chain-polled : (popped : Popped) → popped ≡ popFront (c .events)
-      → outcome (withEvents c (popped .events)) (Polled (popped .event)) false false ≡ pollEvent c
+      → outOf (withEvents c (popped .events)) (Polled (popped .event)) false false ≡ pollEvent c
   unfolding pollEvent
   chain-polled popped p = rw p
 
@@ -66,10 +66,10 @@ module _ (c : Control) where
   chain-keepalive a b r p q s = s ∙ rw (p, q)
 
 -- a creation
-pub chain-made : (index keepalive now : ℕ) (interval : Interval) (c : Control) → interval ≡ intervalOf keepalive → c ≡ newControl index interval now
-    → record { control = c; «last_update» = now; greatest = now } ≡ made index keepalive now
-unfolding made
-chain-made index keepalive now interval c p q = rw (q, p)
+pub chain-new-tunnel : (index keepalive now : ℕ) (interval : Interval) (c : Control) → interval ≡ intervalOf keepalive → c ≡ newControl index interval now
+    → record { control = c; «last_update» = now; greatest = now } ≡ newTunnel index keepalive now
+unfolding newTunnel
+chain-new-tunnel index keepalive now interval c p q = rw (q, p)
 
 -- a call that the checks let through
 pub chain-settled : (t : Tunnel) (now a b : ℕ) (out : Out) → a ≡ choose (out .updates) now (t .«last_update») → b ≡ choose (out .raises) now (t .greatest)

@@ -1,12 +1,11 @@
 -- The deadline reads the control and the last update only.
 -- Assumes nothing.
-use mathlib.Core.Path.{_≡_, refl, sym, _∙_}
+use mathlib.Core.Path.{_≡_, refl}
 use mathlib.Core.Bool.{true}
 use Rattle.base.specs.Choice.{choose}
 use Rattle.tunnel.specs.PollTimeout.{pollTimeout}
 use Rattle.tunnel.specs.declared.answer.Answer.the-variants.{Deadline}
 use Rattle.tunnel.specs.Damage.{undamaged}
-use Rattle.tunnel.specs.Deadline.{DeadlineLaw}
 use Rattle.tunnel.specs.Tunnel.{timelessGate, timeless, settled, callDeadline}
 use Rattle.tunnel.specs.declared.tunnel.Tunnel.{Tunnel}
 

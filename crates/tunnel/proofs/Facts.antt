@@ -11,7 +11,7 @@ use borrow.Author.Tests.{leb-true, le-leb, eqb-true, eq-eqb, ne-eqb}
 use Rattle.base.specs.Choice.{choose, _and_}
 use Rattle.tunnel.specs.Damage.{storedHolds, controlHolds, timeHolds, stateHolds, inRange, intervalHolds, bothAtMost, eventHolds, queueHolds, eventsHold, handshakeHolds, packetTimersHold, dataTimersHold, fieldsHold, timersHold, undamaged}
 use Rattle.tunnel.specs.Facts.EventsWithin.{none, more}
-use Rattle.tunnel.specs.Facts.{SlotWithin, SessionsWithin, EventWithin, EventsWithin, QueueWithin, ControlWithin, Undamaged, FactsOfUndamaged}
+use Rattle.tunnel.specs.Facts.{SlotWithin, SessionsWithin, EventWithin, EventsWithin, QueueWithin, ControlWithin, Undamaged}
 use Rattle.tunnel.specs.declared.control.Control.{Control}
 use Rattle.sessions.specs.Damage.{slotHolds, slotsHold}
 use Rattle.tunnel.specs.Cases.{caseEvent, caseState, caseInterval}

@@ -10,7 +10,7 @@ use lib.ListN.{length}
 use borrow.Author.Tests.{ltb-false, eqb-true, eq-eqb, ne-eqb}
 use Rattle.base.proofs.Choice.{yes-eq, no-eq}
 use Rattle.base.specs.Choice.{choose}
-use Rattle.tunnel.specs.Control.{Turn, outcome}
+use Rattle.tunnel.specs.Control.{Turn, outOf}
 use Rattle.tunnel.specs.PollTimeout.{pollTimeout}
 use Rattle.tunnel.specs.Facts.{ControlWithin}
 use Rattle.tunnel.specs.HandleHandshake.{handleHandshakeInitiation, handleHandshakeResponse, handleCookieReply}
@@ -26,22 +26,16 @@ use Rattle.sessions.specs.declared.session.Time.{Time}
 use Rattle.tunnel.proofs.Facts.{let-through}
 use Rattle.tunnel.specs.Arguments.{openingOutcome, initiationOutcome, lacking, badOutcome, badJitter, creationNumber}
 use Rattle.tunnel.specs.Damage.{undamaged}
-use Rattle.tunnel.specs.Tunnel.{answered, made, gate, timelessGate, refused, settled, timed, timeless, kept, timedTurn, timedBatch, callNew, callInitiation, callResponse, callCookie, callDeadline}
+use Rattle.tunnel.specs.Tunnel.{answered, newTunnel, tested, testedTimeless, gate, timelessGate, refused, settled, timed, timeless, kept, timedTurn, timedBatch, callNew, callInitiation, callResponse, callCookie, callDeadline}
 use Rattle.tunnel.specs.declared.tunnel.Answered.{Answered}
 use Rattle.tunnel.specs.declared.tunnel.Tunnel.{Tunnel}
 
--- the number that the code finds at a time and without one: `sound` is what it has found of number 14
-abbrev tested : (bad sound : Bool) → (greatest now : ℕ) → ℕ
-tested bad sound greatest now = choose (ltb timeLimit now) 1 (choose bad 2 (choose sound (choose (ltb now greatest) 13 0) 14))
-
-abbrev stillTested : (bad sound : Bool) → ℕ
-stillTested bad sound = choose bad 2 (choose sound 0 14)
-
+-- the number that the code finds
 is-gate : (t : Tunnel) (bad sound : Bool) (now number : ℕ) → number ≡ tested bad sound (t .greatest) now → sound ≡ undamaged t → number ≡ gate t bad now
 unfolding gate
 is-gate t bad sound now number n s = n ∙ rw s refl
 
-is-timeless : (t : Tunnel) (bad sound : Bool) (number : ℕ) → number ≡ stillTested bad sound → sound ≡ undamaged t → number ≡ timelessGate t bad
+is-timeless : (t : Tunnel) (bad sound : Bool) (number : ℕ) → number ≡ testedTimeless bad sound → sound ≡ undamaged t → number ≡ timelessGate t bad
 unfolding timelessGate
 is-timeless t bad sound number n s = n ∙ rw s refl
 
@@ -96,7 +90,7 @@ module _ (t : Tunnel) (bad sound : Bool) (now number : ℕ) (n : number ≡ test
   open-good = gate-good t bad now passes
 
 -- the same of a call without a time
-module _ (t : Tunnel) (bad sound : Bool) (number : ℕ) (n : number ≡ stillTested bad sound) (s : sound ≡ undamaged t) (z : number ≡ 0) where
+module _ (t : Tunnel) (bad sound : Bool) (number : ℕ) (n : number ≡ testedTimeless bad sound) (s : sound ≡ undamaged t) (z : number ≡ 0) where
   timeless-sound : (b whole : Bool) → _≡_ {A = ℕ} (choose b 2 (choose whole 0 14)) 0 → whole ≡ true
   unfolding choose
   timeless-sound true whole e = absurd (omega arith)
@@ -163,7 +157,7 @@ module _ (t : Tunnel) (bad is sound : Bool) (now number : ℕ) (b : bad ≡ is) 
       }
 
 -- the frame of a call without a time
-module _ (t : Tunnel) (bad is sound : Bool) (number : ℕ) (b : bad ≡ is) (n : number ≡ stillTested bad sound) (s : sound ≡ undamaged t) where
+module _ (t : Tunnel) (bad is sound : Bool) (number : ℕ) (b : bad ≡ is) (n : number ≡ testedTimeless bad sound) (s : sound ≡ undamaged t) where
   same-timeless : number ≡ timelessGate t is
   same-timeless = is-timeless t bad sound number n s ∙ ap (timelessGate t) b
 
@@ -176,11 +170,11 @@ module _ (t : Tunnel) (bad is sound : Bool) (number : ℕ) (b : bad ≡ is) (n :
   way-timeless-settled out shall a z o r = yes-eq _ 0 a _ _ (sym same-timeless ∙ z) (r ∙ ap (settled t 0) o)
 
 -- the deadline
-pub way-deadline : (t : Tunnel) (sound : Bool) (number : ℕ) (time : Time) → number ≡ stillTested false sound → sound ≡ undamaged t → number ≡ 0
+pub way-deadline : (t : Tunnel) (sound : Bool) (number : ℕ) (time : Time) → number ≡ testedTimeless false sound → sound ≡ undamaged t → number ≡ 0
     → time ≡ pollTimeout (t .control) (t .«last_update») → answered t (Deadline time) ≡ callDeadline t
 unfolding callDeadline settled choose
 way-deadline t sound number time n s z e =
-    way-timeless-settled t false false sound number refl n s (outcome (t .control) (Deadline time) false false) _ _ z (rw e) refl
+    way-timeless-settled t false false sound number refl n s (outOf (t .control) (Deadline time) false false) _ _ z (rw e) refl
 
 -- an outcome that the call has made of its argument
 module _ (t : Tunnel) (given now number : ℕ) (sound : Bool) (s : sound ≡ undamaged t) where
@@ -260,12 +254,12 @@ good-creation store keepalive now z =
 
 -- creation
 module _ (store : List ℕ) (index keepalive now number : ℕ) (n : number ≡ creationNumber store keepalive now) where
-  pub way-new-refused : (none : Tunnel) (a : Answered) → (number ≡ 0 → ⊥) → none ≡ made 0 0 0 → a ≡ refused none number
+  pub way-new-refused : (none : Tunnel) (a : Answered) → (number ≡ 0 → ⊥) → none ≡ newTunnel 0 0 0 → a ≡ refused none number
       → Leaves a (callNew store index keepalive now .answered) store (callNew store index keepalive now .store)
   unfolding callNew choose
   way-new-refused none a z e r = rw (← n, ne-eqb number 0 z) (record { out = r ∙ rw e; words = refl })
 
-  pub way-new : (fresh : Tunnel) (left : List ℕ) → number ≡ 0 → left ≡ zeros (length store) → fresh ≡ made index keepalive now
+  pub way-new : (fresh : Tunnel) (left : List ℕ) → number ≡ 0 → left ≡ zeros (length store) → fresh ≡ newTunnel index keepalive now
       → Leaves (answered fresh Done) (callNew store index keepalive now .answered) left (callNew store index keepalive now .store)
   unfolding callNew choose
   way-new fresh left z l e = rw (← n, eq-eqb number 0 z) (record { out = rw e; words = l ∙ ap zeros (good-creation store keepalive now (sym n ∙ z) .words) })

@@ -8,19 +8,27 @@ use lib.ListN.{length}
 use Rattle.sessions.specs.Session.{newSession, withId}
 use Rattle.sessions.specs.Sessions.{currentOf}
 use Rattle.sessions.specs.declared.sessions.Found.the-variants.{Got}
+use Rattle.tunnel.proofs.AfterStates.{restart-ways, start-ways, cookie-ways, timeout-ways, batch-ways, response-ways, response-up, look-same, missing-same, event-down, sound-passed, new-down, new-up}
 use Rattle.tunnel.proofs.Deadline.{deadline-answer}
+use Rattle.tunnel.proofs.Exceptions.{send-ways, send-down, send-marked, incoming-up, incoming-store, incoming-down, incoming-failed}
+use Rattle.tunnel.proofs.Ended.{stays-ended}
 use Rattle.tunnel.proofs.Facts.{undamaged-facts, undamaged-holds}
 use Rattle.tunnel.proofs.Framed.{gate-onward, gate-now, gate-good, gate-whole, small-jitter}
+use Rattle.tunnel.proofs.Numbers.{first-numbers}
 use Rattle.tunnel.proofs.Queue.{queue-of-newest}
 use Rattle.tunnel.proofs.Quiet.{wake-quiet}
 use Rattle.tunnel.proofs.Responses.{keepalive-sent, confirming-sessions, response-current, response-good}
 use Rattle.tunnel.proofs.Setting.{on-start, on-restart, on-send, on-receive, on-look, on-incoming, on-response, on-cookie, on-timeout, on-missing, on-timed, on-timeless}
 use Rattle.tunnel.proofs.SoundCalls.{its-control, good-made, timed-sound, good-store, made-sound, timeless-sound}
 use Rattle.tunnel.proofs.SoundSteps.{SoundControl, sound-later}
+use Rattle.tunnel.proofs.Still.{restart-expired, start-expired, start-again, timeout-nothing, empty-nothing, deadline-nothing, event-answer, event-queue, event-rest}
 use Rattle.tunnel.proofs.Stores.{kept-whole, batch-store, initiation-store, response-store, timeout-store}
+use Rattle.tunnel.proofs.TurnedDown.{TurnWays, timed-same, timed-down, turn-down, batch-down, timed-up, timed-nothing, timeless-same}
+use Rattle.tunnel.specs.AfterStates.{AfterStates, GreatestLaw, StillLaw, EventLaw, NoneCurrent, ExpiredLaw}
 use Rattle.tunnel.specs.Deadline.{DeadlineLaw}
 use Rattle.tunnel.specs.Facts.{FactsOfUndamaged}
 use Rattle.tunnel.specs.Laws.{GateLaw, SettingLaw, establishing, confirmedBy, ResponseLaw}
+use Rattle.tunnel.specs.Numbers.{NumbersLaw}
 use Rattle.tunnel.specs.Quiet.{QuietLaw}
 use Rattle.tunnel.specs.RingBuffer.{QueueOfNewest}
 use Rattle.tunnel.specs.Sound.{Sound, SoundLaw, StoreLaw, CreatedLaw}
@@ -36,8 +44,9 @@ use Rattle.tunnel.specs.Control.{pollEvent}
 use Rattle.tunnel.specs.declared.answer.Answer.the-variants.{Done}
 use Rattle.base.proofs.Zeros.{length-zeros}
 use Rattle.sessions.specs.Store.{whole}
-use Rattle.tunnel.specs.Arguments.{openingOutcome, initiationOutcome, creationNumber}
-use Rattle.tunnel.specs.Tunnel.{refused, Called, timedTurn, timedBatch, callNew, callStart, callRestart, callSend, callReceive, callLook, callInitiation, callResponse, callCookie, callTimeout, callEvent, callDeadline, callMissing}
+use Rattle.tunnel.specs.Arguments.{openingOutcome, initiationOutcome, badOutcome, creationNumber}
+use Rattle.tunnel.specs.HandleHandshake.{handleHandshakeResponse}
+use Rattle.tunnel.specs.Tunnel.{gate, refused, Called, timedTurn, timedBatch, callNew, callStart, callRestart, callSend, callReceive, callLook, callInitiation, callResponse, callCookie, callTimeout, callEvent, callDeadline, callMissing}
 use Rattle.tunnel.proofs.SoundWaking.{timeout-sound}
 use Rattle.sessions.specs.Batch.{receive}
 use Rattle.tunnel.specs.Encapsulate.{send}
@@ -120,6 +129,14 @@ setting-law t store =
       missing = λ index. on-timeless _ t refl _ _ (on-missing _ _ store index refl);
     }
 
+-- the number that turns a call down
+pub numbers-law : (t : Tunnel) (store : List ℕ) → NumbersLaw t store
+numbers-law = first-numbers
+
+-- an expired tunnel has no current session
+pub expired-law : (t : Tunnel) (store : List ℕ) → NoneCurrent t → ExpiredLaw t store
+expired-law = stays-ended
+
 -- the deadline
 pub deadline-law : (t : Tunnel) → DeadlineLaw t
 deadline-law t =
@@ -149,3 +166,67 @@ module _ (t : Tunnel) (s : Sound t) (handshake : Handshake) (store : List ℕ) (
         first = keepalive-sent (confirmedBy (t .control) handshake store receiver peer now) _ now now-current refl refl;
         answer = response-good (t .control) handshake store receiver peer now sound-now long;
       }
+
+-- what the calls that are turned down leave; the arrays' lengths are for the response, whose session is never stored without its keepalive
+module _ (t : Tunnel) (store : List ℕ) (eight : length (t .control .sessions .slots) ≡ 8) (sixteen : length (t .control .events .slots) ≡ 16) where
+  passed-response : (receiver peer outcome now : ℕ) → gate t (badOutcome (openingOutcome outcome) store) now ≡ 0
+      → TurnWays (t .control) store (handleHandshakeResponse (t .control) store receiver peer (openingOutcome outcome) now)
+  passed-response receiver peer outcome now z =
+      response-ways (t .control) store receiver peer (openingOutcome outcome) now (sound-passed t _ now eight sixteen z)
+      (good-store (openingOutcome outcome) store (gate-good t _ now z))
+
+  pub after-states-law : AfterStates t store
+  unfolding callStart callRestart callReceive callLook callResponse callCookie callTimeout callDeadline callMissing
+  after-states-law =
+      record {
+        start = λ now. timed-down t _ now _ (λ z. start-ways (t .control) now);
+        restart = λ now. timed-down t _ now _ (λ z. restart-ways (t .control) now);
+        send = λ count now. send-down t count now;
+        sendTooFew = λ count now. send-marked t count now;
+        receive = λ index id now counters kinds verdicts.
+            batch-down t _ now store verdicts _ (λ z. batch-ways (t .control) store index id now counters kinds verdicts);
+        initiation = λ peer outcome now. incoming-down t store peer outcome now;
+        initiationFailed = λ peer outcome now. incoming-failed t store peer outcome now;
+        initiationStore = λ peer outcome now. incoming-store t store peer outcome now;
+        response = λ receiver peer outcome now. turn-down t _ now store _ (passed-response receiver peer outcome now);
+        cookie = λ receiver outcome now. timed-down t _ now _ (λ z. cookie-ways (t .control) receiver (openingOutcome outcome) now);
+        timeout = λ jitter now. turn-down t _ now store _ (λ z. timeout-ways (t .control) store jitter now);
+        event = event-down t;
+        look = λ index counter now. timed-same t _ now _ (look-same (t .control) store index counter now);
+        deadline = timeless-same t _ _ (record { control = refl; raises = refl; updates = refl });
+        missing = λ index. timeless-same t _ _ (missing-same (t .control) store index);
+        new = λ index keepalive now. new-down store index keepalive now;
+      }
+
+-- what the calls that are not turned down leave
+pub greatest-law : (t : Tunnel) (store : List ℕ) → GreatestLaw t store
+unfolding callStart callRestart callSend callReceive callResponse callCookie callTimeout timedTurn timedBatch
+greatest-law t store =
+    record {
+      new = λ index keepalive now. new-up store index keepalive now;
+      start = λ now. timed-up t _ now _ (λ z. start-ways (t .control) now .up);
+      restart = λ now. timed-up t _ now _ (λ z. restart-ways (t .control) now .up);
+      send = λ count now. timed-up t _ now _ (λ z. send-ways (t .control) count now .up);
+      receive = λ index id now counters kinds verdicts. timed-up t _ now _ (λ z. batch-ways (t .control) store index id now counters kinds verdicts .out .up);
+      initiation = λ peer outcome now. incoming-up t store peer outcome now;
+      response = λ receiver peer outcome now. timed-up t _ now _ (λ z. response-up (t .control) store receiver peer (openingOutcome outcome) now);
+      cookie = λ receiver outcome now. timed-up t _ now _ (λ z. cookie-ways (t .control) receiver (openingOutcome outcome) now .up);
+      timeout = λ jitter now. timed-up t _ now _ (λ z. timeout-ways (t .control) store jitter now .out .up);
+    }
+
+-- what changes nothing but the greatest time
+pub still-law : (t : Tunnel) (store : List ℕ) → StillLaw t store
+unfolding callStart callRestart
+still-law t store =
+    record {
+      batch = λ index id now. empty-nothing t store index id now;
+      timeout = λ jitter now. timeout-nothing t store jitter now;
+      start = λ now x. timed-nothing t _ now _ (start-expired (t .control) now x);
+      restart = λ now x. timed-nothing t _ now _ (restart-expired (t .control) now x);
+      again = λ now local sent x. timed-nothing t _ now _ (start-again (t .control) now local sent x);
+      deadline = deadline-nothing t;
+    }
+
+-- the event call
+pub event-law : (t : Tunnel) → length (t .control .events .slots) ≡ 16 → EventLaw t
+event-law t long = record { answer = event-answer t long; queue = event-queue t long; rest = event-rest t }

@@ -1,16 +1,13 @@
 -- What a handshake message that opened and a cookie reply that was stored make of the handshake.
 -- Assumes nothing.
-use mathlib.Core.Path.{_≡_, refl}
+use mathlib.Core.Path.{_≡_}
 use mathlib.Core.Bool.{Bool, true, false}
 use Prim.Native.Nat.{ℕ}
 use native.Mathlib.Omega.{arith}
 use Rattle.base.specs.Choice.{choose}
-use Rattle.tunnel.specs.Cases.{caseCompleted, caseCookie}
 use Rattle.tunnel.specs.Handshake.{withStates, withCookies, tracking, appendMac1AndMac2, receiveHandshakeInitialization, receiveHandshakeResponse, receiveCookieReply}
 use Rattle.tunnel.specs.declared.handshake.Completed.the-variants.{Failed, Opened}
-use Rattle.tunnel.specs.declared.handshake.Completed.{Completed}
 use Rattle.tunnel.specs.declared.handshake.Cookie.the-variants.{Unusable, Stored}
-use Rattle.tunnel.specs.declared.handshake.Cookie.{Cookie}
 use Rattle.tunnel.specs.declared.handshake.Handshake.{Handshake}
 use Rattle.tunnel.specs.declared.handshake.HandshakeState.the-variants.{None}
 use Rattle.sessions.specs.Session.{newSession}

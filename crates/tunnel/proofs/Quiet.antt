@@ -12,7 +12,7 @@ use Rattle.base.proofs.Choice.{no-flag}
 use Rattle.base.specs.Choice.{choose}
 use Rattle.base.specs.First.{noneOf}
 use Rattle.tunnel.specs.Control.{withHandshake}
-use Rattle.tunnel.specs.PollTimeout.{scheduledHandshake, earliestExpiry, cookieDeadline, rejectDeadline, attemptDeadline, handshakeRekeyTimeout, rekeyOnSend, rekeyAfterMessages, rekeyOnReceive, responseDeadline, passiveDeadline, persistentDeadline, currentPersistentDeadline, commonDeadline, rekeyDeadline, keepaliveDeadline, unscheduledDeadline, nextDeadline}
+use Rattle.tunnel.specs.PollTimeout.{scheduledHandshake, earliestExpiry, cookieDeadline, rejectDeadline, attemptDeadline, handshakeRekeyTimeout, rekeyOnSend, rekeyOnMessages, rekeyOnReceive, responseDeadline, passiveDeadline, persistentDeadline, currentPersistentDeadline, commonDeadline, rekeyDeadline, keepaliveDeadline, unscheduledDeadline, nextDeadline}
 use Rattle.tunnel.specs.declared.control.Control.{Control}
 use Rattle.tunnel.specs.Handshake.{expireCookie}
 use Rattle.tunnel.specs.Cases.{caseInterval}
@@ -29,7 +29,7 @@ use Rattle.sessions.specs.declared.session.Time.{Time}
 use Rattle.sessions.specs.declared.sessions.Found.the-variants.{Nothing, Got}
 use Rattle.sessions.specs.declared.sessions.Found.{Found}
 use Rattle.sessions.specs.declared.sessions.Sessions.{Sessions}
-use Rattle.tunnel.specs.Quiet.{Early, QuietLaw}
+use Rattle.tunnel.specs.Quiet.{Early}
 use Rattle.tunnel.specs.HandleTimeout.{inner, keepaliveDue, keepaliveIfDue, rekeyDue, rekeyOrKeepalive, giveUpOrRetry, maintainConnection, expireSessions, handleDue}
 
 -- a value picked by a test that fails
@@ -104,8 +104,8 @@ module _ (c : Control) (now : ℕ) where
   no-rekey : dueBy (rekeyDeadline c) now ≡ false → rekeyDue c now ≡ false
   unfolding rekeyDeadline rekeyDue
   no-rekey p =
-      let n = neither (earlier (rekeyOnSend c) (rekeyAfterMessages c)) (earlier (rekeyOnReceive c) (responseDeadline c)) now p in
-      let a = neither (rekeyOnSend c) (rekeyAfterMessages c) now (n .first) in
+      let n = neither (earlier (rekeyOnSend c) (rekeyOnMessages c)) (earlier (rekeyOnReceive c) (responseDeadline c)) now p in
+      let a = neither (rekeyOnSend c) (rekeyOnMessages c) now (n .first) in
       let b = neither (rekeyOnReceive c) (responseDeadline c) now (n .second) in
       otherwise _ _ _ false (a .first) (otherwise _ _ _ false (a .second) (otherwise _ _ _ false (b .first) (b .second)))
 

@@ -28,7 +28,7 @@ use Rattle.tunnel.proofs.Framed.{gate-onward, gate-now, gate-good, Good
 use Rattle.tunnel.specs.Arguments.{intervalOf, lacking, badOutcome, creationNumber}
 use Rattle.tunnel.specs.Facts.{Undamaged}
 use Rattle.tunnel.specs.Sound.{Sound}
-use Rattle.tunnel.specs.Tunnel.{made, gate, timelessGate, refused, settled, timed, timeless}
+use Rattle.tunnel.specs.Tunnel.{newTunnel, gate, timelessGate, refused, settled, timed, timeless}
 use Rattle.tunnel.specs.declared.tunnel.Answered.{Answered}
 use Rattle.tunnel.specs.declared.tunnel.Tunnel.{Tunnel}
 
@@ -117,12 +117,12 @@ new-sound index interval now i =
       sixteen = queue-of-newest .fresh .places;
     }
 
-pub made-sound : (index keepalive now : ℕ) → keepalive ≤ greatestInterval → now ≤ timeLimit → Sound (made index keepalive now)
-unfolding made
+pub made-sound : (index keepalive now : ℕ) → keepalive ≤ greatestInterval → now ≤ timeLimit → Sound (newTunnel index keepalive now)
+unfolding newTunnel
 made-sound index keepalive now k l = tunnel-sound _ l (omega arith) (new-sound index (intervalOf keepalive) now (interval-within keepalive k))
 
 module _ (store : List ℕ) (index keepalive now : ℕ) where
-  pub good-made : creationNumber store keepalive now ≡ 0 → Sound (made index keepalive now)
+  pub good-made : creationNumber store keepalive now ≡ 0 → Sound (newTunnel index keepalive now)
   good-made z =
       let g : GoodCreation store keepalive now = good-creation store keepalive now z in
       made-sound index keepalive now (g .keepalive) (g .time)

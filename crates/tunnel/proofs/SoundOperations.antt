@@ -14,7 +14,7 @@ use Rattle.tunnel.proofs.SoundSending.{sound-encrypted, sound-initiated
 use Rattle.sessions.specs.Cases.{known-found, known-reserved, of-found, of-missing, known-received}
 use Rattle.tunnel.proofs.SoundSteps.{SoundControl, OwnSlot, counted-within, new-within, sending-within, put-sound, insert-sound, current-sound, index-sound, sound-later, its-sessions, sound-timers, sound-handshake, sound-sessions, sound-queued, receive-sound, SoundSessions}
 use Rattle.base.proofs.Choice.{of-choice}
-use Rattle.tunnel.specs.Control.{Turn, withEvents, withEstablished, withHandshake, outcome, refuse, done, pollEvent, missingReport}
+use Rattle.tunnel.specs.Control.{Turn, withEvents, withEstablished, withHandshake, outOf, refuse, done, pollEvent, missingReport}
 use Rattle.tunnel.specs.Facts.{EventWithin}
 use Rattle.tunnel.specs.HandleHandshake.{responding, respond, handleHandshakeInitiation, confirming, handleHandshakeResponse, handleCookieReply}
 use Rattle.tunnel.specs.InitiateHandshake.{restartHandshake, startHandshake}
@@ -51,7 +51,7 @@ pub record SoundStill (out : Out) (old : ℕ) : Type 0 where
 
 -- the kinds of answers
 module _ (old : ℕ) (c : Control) where
-  pub unraising : (answer : Answer) → SoundControl c old → SoundStill (outcome c answer false false) old
+  pub unraising : (answer : Answer) → SoundControl c old → SoundStill (outOf c answer false false) old
   unraising answer w = record { sound = w; unraised = refl; unticked = refl }
 
   refusing : (number : ℕ) → SoundControl c old → SoundStill (refuse c number) old
@@ -70,7 +70,7 @@ module _ (old now : ℕ) where
   refuse-sound : (c : Control) (number : ℕ) → SoundControl c old → SoundOut (refuse c number) old now
   refuse-sound c number w = staying _ (refusing old c number w)
 
-  pub raising : (c : Control) (answer : Answer) (updates : Bool) → SoundControl c now → SoundOut (outcome c answer true updates) old now
+  pub raising : (c : Control) (answer : Answer) (updates : Bool) → SoundControl c now → SoundOut (outOf c answer true updates) old now
   raising c answer updates w = record { raised = λ e. w; still = λ e. absurd (true≢false e); ticked = λ e. refl }
 
   pub done-sound : (c : Control) (answer : Answer) → SoundControl c now → SoundOut (done c answer) old now

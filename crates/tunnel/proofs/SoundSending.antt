@@ -5,11 +5,8 @@ use Rattle.tunnel.proofs.Kept.{first-within, on-sent, on-initiate, on-i
 use Rattle.sessions.specs.Cases.{known-found, known-reserved}
 use Rattle.tunnel.proofs.SoundSteps.{SoundControl, counted-within, sending-within, put-sound, index-sound, its-sessions, sound-timers, sound-sessions}
 use Rattle.tunnel.specs.InitiateHandshake.{initiate, initiating}
-use Rattle.tunnel.specs.Cases.{caseDatagram}
 use Rattle.tunnel.specs.Encapsulate.{encryptKeepalive}
 use Rattle.tunnel.specs.declared.control.Control.{Control}
-use Rattle.tunnel.specs.declared.encapsulate.Datagram.the-variants.{Skipped, Sent}
-use Rattle.tunnel.specs.declared.encapsulate.Datagram.{Datagram}
 use Rattle.tunnel.specs.declared.encapsulate.Encrypted.{Encrypted}
 use Rattle.tunnel.specs.Timers.{tickLastPacketSent}
 use Rattle.sessions.specs.Session.{reserveCounters}

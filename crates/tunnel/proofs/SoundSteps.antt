@@ -69,7 +69,7 @@ module _ (most : ℕ) where
   new-within local peer now id role h = record { established = h; counter = omega arith; next = omega arith; index = refl }
 
   pub sending-within : (s : Sessions) (now : ℕ) (x : Session) → SessionsWithin s most → sendingSession s now ≡ Got x → OwnSlot x most
-  sending-within s now x w p = current-within s most w (currentOf s) x (lookup-law s .sending now x p) refl
+  sending-within s now x w p = current-within s most w (currentOf s) x (lookup-law s .sending now x p .0) refl
 
   -- what holds of a session put into a slot and of every other one holds of each
   of-set : (Q : ℕ → Session → Type 0) (l : List Session) (i k : ℕ) (x e : Session) → Q i x → Q k (getD l k e) → Q k (getD (set l i x) k e)

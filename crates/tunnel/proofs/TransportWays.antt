@@ -9,7 +9,7 @@ use lib.Dec.{leb}
 use lib.Seq.{set-set}
 use Rattle.base.proofs.Choice.{no-call, yes-flag, no-flag, yes-eq, no-eq}
 use Rattle.base.specs.Choice.{choose}
-use Rattle.tunnel.specs.Control.{withSessions, withTimers, withEstablished, outcome, refuse, done, expiredControl, queueing}
+use Rattle.tunnel.specs.Control.{withSessions, withTimers, withEstablished, outOf, refuse, done, expiredControl, queueing}
 use Rattle.tunnel.specs.Encapsulate.{encrypted, beginEncapsulate, finishEncapsulate, grant, encryptKeepalive}
 use Rattle.tunnel.specs.Decapsulate.{confirmFirstSession, accept, commitDecapsulate, beginDecapsulate}
 use Rattle.tunnel.specs.declared.answer.Answer.the-variants.{No, Done, Granted}
@@ -60,7 +60,7 @@ module _ (c : Control) where
       (t : ticked ≡ tickLastDataPacketSent sent now) (p : prepared ≡ preparePacketData session) (r : reserved ≡ reserveCounters prepared count)
     where
       pub way-too-few : (after : Sessions) → reserved ≡ TooFew → after ≡ put (c .sessions) prepared
-          → outcome (withSessions (withTimers c ticked) after) (No 12) true false ≡ grant c session count now
+          → outOf (withSessions (withTimers c ticked) after) (No 12) true false ≡ grant c session count now
       unfolding grant finishEncapsulate beginEncapsulate
       way-too-few after few a = rw (← p) (is-too-few reserved (reserveCounters prepared count) _ _ _ r few (rw (a, t, s)))
 
@@ -93,7 +93,7 @@ module _ (c : Control) where
       (f : flag ≡ expiredControl c) (g : flag ≡ false) (e : found ≡ inSlotOf (c .sessions) index) (h : found ≡ Got session)
       (l : late ≡ expiredAt session now) (m : late ≡ false) (w : number ≡ willReceive session store index counter)
     where
-      pub way-looked : number ≡ 0 → outcome c Done false false ≡ beginDecapsulate c store index counter now
+      pub way-looked : number ≡ 0 → outOf c Done false false ≡ beginDecapsulate c store index counter now
       unfolding beginDecapsulate
       way-looked z =
           no-call flag (expiredControl c) _ _ _ f g

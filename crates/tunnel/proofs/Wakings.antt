@@ -4,13 +4,11 @@ use mathlib.Core.Bool.{Bool, false}
 use mathlib.Core.List.{List}
 use Prim.Native.Nat.{ℕ}
 use Rattle.base.proofs.Choice.{of-choice}
-use Rattle.sessions.specs.Cases.{of-found, caseTime, of-time}
+use Rattle.sessions.specs.Cases.{of-found, of-time}
 use Rattle.tunnel.specs.Control.{withHandshake, withSessions}
 use Rattle.tunnel.specs.declared.control.Control.{Control}
 use Rattle.tunnel.specs.Handshake.{expireCookie}
 use Rattle.sessions.specs.Sessions.{expire}
-use Rattle.sessions.specs.declared.session.Time.the-variants.{Never, At}
-use Rattle.sessions.specs.declared.session.Time.{Time}
 use Rattle.tunnel.specs.HandleTimeout.{Inner, expireControl, scheduling, keepaliveIfDue, rekeyOrKeepalive, giveUpOrRetry, maintainConnection, expireSessions, sendScheduled, handleDue}
 
 -- the steps of a waking keep what is said of a control and its store

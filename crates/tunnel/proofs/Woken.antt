@@ -5,7 +5,7 @@ use mathlib.Core.Bool.{Bool, true, false}
 use mathlib.Core.List.{List}
 use Prim.Native.Nat.{ℕ, _+_}
 use Rattle.base.specs.Choice.{choose}
-use Rattle.tunnel.specs.Control.{withHandshake, withSessions, withTimers, withEvents, outcome, done, expiredControl, queueing}
+use Rattle.tunnel.specs.Control.{withHandshake, withSessions, withTimers, withEvents, outOf, done, expiredControl, queueing}
 use Rattle.tunnel.specs.PollTimeout.{scheduledHandshake, rejectDeadline, attemptDeadline, handshakeRekeyTimeout, foundOnSend, foundAfterMessages, foundOnReceive, responseDeadline, passiveDeadline, persistentDeadline}
 use Rattle.tunnel.specs.InitiateHandshake.{initiate}
 use Rattle.tunnel.specs.Cases.{caseDatagram}
@@ -303,6 +303,6 @@ module _ (c : Control) (store : List ℕ) (jitter now : ℕ) (flag : Bool) (f : 
   timeout-expired out y o = rw (← f, y) (record { out = o; words = refl })
 
   pub timeout-woken : (x : Control) (left : List ℕ) → flag ≡ false → Makes x left (handleDue c store jitter now)
-      → Leaves (outcome x NoAnswer true true) (handleTimeout c store jitter now .out) left (handleTimeout c store jitter now .store)
+      → Leaves (outOf x NoAnswer true true) (handleTimeout c store jitter now .out) left (handleTimeout c store jitter now .store)
   unfolding handleTimeout choose
   timeout-woken x left n l = rw (← f, n) (record { out = rw (l .out); words = l .words })

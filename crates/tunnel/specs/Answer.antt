@@ -52,17 +52,17 @@ timeValues Never = []
 timeValues (At time) = time ∷ []
 
 -- the word of an answer
-unfoldable pub wordOf : Answer → Word
-wordOf (No number) = turned
-wordOf Done = bare
-wordOf NoAnswer = none
-wordOf (Initiation local) = init
-wordOf (Response local peer) = resp
-wordOf (Keepalive peer counter) = key
-wordOf (Granted granted) = range
-wordOf (Polled event) = eventWord event
-wordOf (Deadline time) = timeWord time
-wordOf (Report count) = missing
+unfoldable pub answerWord : Answer → Word
+answerWord (No number) = turned
+answerWord Done = bare
+answerWord NoAnswer = none
+answerWord (Initiation local) = init
+answerWord (Response local peer) = resp
+answerWord (Keepalive peer counter) = key
+answerWord (Granted granted) = range
+answerWord (Polled event) = eventWord event
+answerWord (Deadline time) = timeWord time
+answerWord (Report count) = missing
 
 -- the values of an answer, in the order in which drive writes them
 unfoldable pub valuesOf : Answer → List ℕ
@@ -72,7 +72,7 @@ valuesOf NoAnswer = []
 valuesOf (Initiation local) = local ∷ []
 valuesOf (Response local peer) = local ∷ peer ∷ []
 valuesOf (Keepalive peer counter) = peer ∷ counter ∷ []
-valuesOf (Granted granted) = granted .peer ∷ granted .first ∷ granted .length ∷ []
+valuesOf (Granted granted) = granted .peer ∷ granted .first ∷ granted .len ∷ []
 valuesOf (Polled event) = eventValues event
 valuesOf (Deadline time) = timeValues time
 valuesOf (Report count) = count ∷ []

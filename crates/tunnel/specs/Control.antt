@@ -57,8 +57,8 @@ abbrev pub withEstablished : Control → Bool → Control
 withEstablished c x = control (c .handshake) (c .sessions) (c .timers) (c .events) (c .«first_initiation_at») x
 
 -- what an operation hands back: the control, the answer, whether it raises the greatest time, whether it ticks `TimeLastUpdate`
-abbrev pub outcome : Control → Answer → (raises updates : Bool) → Out
-outcome c answer raises updates = record { control = c; answer = answer; raises = raises; updates = updates }
+abbrev pub outOf : Control → Answer → (raises updates : Bool) → Out
+outOf c answer raises updates = record { control = c; answer = answer; raises = raises; updates = updates }
 
 -- what an operation hands back, and the store that it leaves
 pub record Turn : Type 0 where
@@ -71,11 +71,11 @@ newControl index interval now = control newHandshake (newSessions index) (newTim
 
 -- a call that is turned down
 unfoldable pub refuse : Control → ℕ → Out
-refuse c number = outcome c (No number) false false
+refuse c number = outOf c (No number) false false
 
 -- a call that is answered
 unfoldable pub done : Control → Answer → Out
-done c answer = outcome c answer true false
+done c answer = outOf c answer true false
 
 -- whether the connection has expired
 unfoldable pub expiredControl : Control → Bool
@@ -87,9 +87,9 @@ queueing c event = withEvents c (pushBack (c .events) event)
 
 -- the oldest queued event
 unfoldable pub pollEvent : Control → Out
-pollEvent c = outcome (withEvents c (popFront (c .events) .events)) (Polled (popFront (c .events) .event)) false false
+pollEvent c = outOf (withEvents c (popFront (c .events) .events)) (Polled (popFront (c .events) .event)) false false
 
 -- the missing report of the session with a local index
 unfoldable pub missingReport : Control → List ℕ → ℕ → Out
 missingReport c store index =
-    caseMissing (missing (c .sessions) store index) (λ number. refuse c number) (λ count. outcome c (Report count) false false)
+    caseMissing (missing (c .sessions) store index) (λ number. refuse c number) (λ count. outOf c (Report count) false false)

@@ -4,7 +4,7 @@ use mathlib.Core.List.{List}
 use Prim.Native.Nat.{ℕ}
 use lib.Dec.{eqb}
 use Rattle.base.specs.Choice.{choose}
-use Rattle.tunnel.specs.Control.{withSessions, withTimers, withEstablished, outcome, refuse, done, expiredControl, queueing}
+use Rattle.tunnel.specs.Control.{withSessions, withTimers, withEstablished, outOf, refuse, done, expiredControl, queueing}
 use Rattle.tunnel.specs.declared.answer.Answer.the-variants.{Done}
 use Rattle.tunnel.specs.declared.control.Control.{Control}
 use Rattle.tunnel.specs.declared.control.Out.{Out}
@@ -51,4 +51,4 @@ beginDecapsulate c store index counter now =
     choose (expiredControl c) (refuse c 11)
     (caseFound (inSlotOf (c .sessions) index) (refuse c 12)
     (λ session. choose (expiredAt session now) (refuse c 12)
-    (choose (eqb (willReceive session store index counter) 0) (outcome c Done false false) (refuse c (willReceive session store index counter)))))
+    (choose (eqb (willReceive session store index counter) 0) (outOf c Done false false) (refuse c (willReceive session store index counter)))))

@@ -2,7 +2,7 @@
 use mathlib.Core.Bool.{true, false}
 use Prim.Native.Nat.{ℕ}
 use Rattle.base.specs.Choice.{choose}
-use Rattle.tunnel.specs.Control.{withSessions, withTimers, outcome, refuse, done, expiredControl}
+use Rattle.tunnel.specs.Control.{withSessions, withTimers, outOf, refuse, done, expiredControl}
 use Rattle.tunnel.specs.declared.answer.Answer.the-variants.{No, Granted}
 use Rattle.tunnel.specs.declared.control.Control.{Control}
 use Rattle.tunnel.specs.declared.control.Out.{Out}
@@ -24,7 +24,7 @@ beginEncapsulate c session now =
 -- the counters of data messages reserved; too few left still raise the greatest time
 unfoldable pub finishEncapsulate : Control → Session → ℕ → Out
 finishEncapsulate c session count =
-    caseReserved (reserveCounters session count) (outcome c (No 12) true false)
+    caseReserved (reserveCounters session count) (outOf c (No 12) true false)
     (λ first counted. done (withSessions c (put (c .sessions) counted)) (Granted (range (counted .«sending_index») first count)))
 
 -- consecutive counters of a session granted to data messages

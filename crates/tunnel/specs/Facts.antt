@@ -2,7 +2,7 @@
 use mathlib.Core.Path.{_≡_}
 use mathlib.Core.Bool.{true}
 use mathlib.Core.List.{List, [], _∷_}
-use Prim.Native.Nat.{ℕ, _≤_, _<_}
+use Prim.Native.Nat.{ℕ, _-_, _^_, _≤_, _<_}
 use Rattle.tunnel.specs.declared.control.Control.{Control}
 use Rattle.tunnel.specs.Handshake.{HandshakeWithin}
 use Rattle.tunnel.specs.RingBuffer.{RingWithin, queued}
@@ -10,7 +10,6 @@ use Rattle.tunnel.specs.Timers.{TimeWithin, TimersWithin}
 use Rattle.tunnel.specs.declared.event.Event.the-variants.{Established}
 use Rattle.tunnel.specs.declared.event.Event.{Event}
 use Rattle.tunnel.specs.declared.ring_buffer.RingBuffer.{RingBuffer}
-use Rattle.sessions.specs.Session.{rejectAfterMessages, timeLimit}
 use Rattle.sessions.specs.Index.{slotOf}
 use Rattle.sessions.specs.Sessions.{slotAt}
 use Rattle.sessions.specs.declared.session.Session.{Session}
@@ -20,11 +19,11 @@ use Rattle.sessions.specs.declared.sessions.Sessions.{Sessions}
 use Rattle.tunnel.specs.Damage.{undamaged}
 use Rattle.tunnel.specs.declared.tunnel.Tunnel.{Tunnel}
 
--- a session's time is at most this, its counters are at most LIMIT, and its index is of this slot
+-- a session's time is at most this, its counters are at most 2^64 - 8,193, and its index is of this slot
 pub record SlotWithin (s : Session) (slot most : ℕ) : Type 0 where
   pub established : s .«established_at» ≤ most
-  pub counter : s .«sending_key_counter» ≤ rejectAfterMessages
-  pub next : s .next ≤ rejectAfterMessages
+  pub counter : s .«sending_key_counter» ≤ 2 ^ 64 - 8193
+  pub next : s .next ≤ 2 ^ 64 - 8193
   pub index : slotOf (s .«receiving_index») ≡ slot
 
 -- every filled slot
@@ -60,7 +59,7 @@ pub record ControlWithin (c : Control) (most : ℕ) : Type 0 where
 
 -- number 14 lets the tunnel through
 pub record Undamaged (t : Tunnel) : Type 0 where
-  pub latest : t .greatest ≤ timeLimit
+  pub latest : t .greatest ≤ 4000000000000000000
   pub updated : t .«last_update» ≤ t .greatest
   pub control : ControlWithin (t .control) (t .greatest)
 

@@ -3,8 +3,8 @@ use mathlib.Core.Bool.{Bool, true, false}
 use mathlib.Core.List.{List}
 use Prim.Native.Nat.{ℕ, _+_}
 use Rattle.base.specs.Choice.{choose}
-use Rattle.tunnel.specs.Control.{Turn, withHandshake, withSessions, withTimers, outcome, done, expiredControl, queueing}
-use Rattle.tunnel.specs.PollTimeout.{scheduledHandshake, rejectDeadline, attemptDeadline, handshakeRekeyTimeout, rekeyOnSend, rekeyAfterMessages, rekeyOnReceive, responseDeadline, passiveDeadline, persistentDeadline}
+use Rattle.tunnel.specs.Control.{Turn, withHandshake, withSessions, withTimers, outOf, done, expiredControl, queueing}
+use Rattle.tunnel.specs.PollTimeout.{scheduledHandshake, rejectDeadline, attemptDeadline, handshakeRekeyTimeout, rekeyOnSend, rekeyOnMessages, rekeyOnReceive, responseDeadline, passiveDeadline, persistentDeadline}
 use Rattle.tunnel.specs.InitiateHandshake.{initiate}
 use Rattle.tunnel.specs.Cases.{caseDatagram}
 use Rattle.tunnel.specs.Encapsulate.{encryptKeepalive}
@@ -74,7 +74,7 @@ keepaliveIfDue c now = choose (keepaliveDue c now) (sendKeepalive c now) c
 unfoldable pub rekeyDue : Control → ℕ → Bool
 rekeyDue c now =
     choose (dueBy (rekeyOnSend c) now) true
-    (choose (dueBy (rekeyAfterMessages c) now) true
+    (choose (dueBy (rekeyOnMessages c) now) true
     (choose (dueBy (rekeyOnReceive c) now) true (dueBy (responseDeadline c) now)))
 
 -- while no initiation awaits a response: a handshake scheduled if one is required or rekeying is due, else a keepalive queued if one is due
@@ -130,4 +130,4 @@ handleDue c store jitter now =
 unfoldable pub handleTimeout : Control → List ℕ → (jitter now : ℕ) → Turn
 handleTimeout c store jitter now =
     choose (expiredControl c) (record { out = done c NoAnswer; store = store })
-    (record { out = outcome (handleDue c store jitter now .control) NoAnswer true true; store = handleDue c store jitter now .store })
+    (record { out = outOf (handleDue c store jitter now .control) NoAnswer true true; store = handleDue c store jitter now .store })

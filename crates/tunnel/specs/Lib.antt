@@ -1,3 +1,4 @@
+pub mod AfterStates
 pub mod Answer
 pub mod Arguments
 pub mod Cases
@@ -12,6 +13,7 @@ pub mod HandleTimeout
 pub mod Handshake
 pub mod InitiateHandshake
 pub mod Laws
+pub mod Numbers
 pub mod PollTimeout
 pub mod Quiet
 pub mod RingBuffer

@@ -56,8 +56,8 @@ abbrev pub rekeyOnSend : Control → Time
 rekeyOnSend c = foundOnSend (currentOf (c .sessions))
 
 -- when the current session reached the number of messages after which to rekey
-abbrev pub rekeyAfterMessages : Control → Time
-rekeyAfterMessages c = foundAfterMessages (currentOf (c .sessions)) (c .timers .«time_last_packet_sent»)
+abbrev pub rekeyOnMessages : Control → Time
+rekeyOnMessages c = foundAfterMessages (currentOf (c .sessions)) (c .timers .«time_last_packet_sent»)
 
 -- the rekey deadline of a current session that has received data
 abbrev pub rekeyOnReceive : Control → Time
@@ -85,7 +85,7 @@ commonDeadline c = earlier (earlier (earliestExpiry c) (cookieDeadline c)) (reje
 
 -- the deadlines at which a handshake is required while none is in progress
 unfoldable pub rekeyDeadline : Control → Time
-rekeyDeadline c = earlier (earlier (rekeyOnSend c) (rekeyAfterMessages c)) (earlier (rekeyOnReceive c) (responseDeadline c))
+rekeyDeadline c = earlier (earlier (rekeyOnSend c) (rekeyOnMessages c)) (earlier (rekeyOnReceive c) (responseDeadline c))
 
 -- the deadlines of keepalives
 unfoldable pub keepaliveDeadline : Control → Time

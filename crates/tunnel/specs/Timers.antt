@@ -35,7 +35,7 @@ pub record TimeWithin (time : Time) (most : ℕ) : Type 0 where
 -- a persistent keepalive, if set, has 1 to 65,535 seconds
 pub record IntervalWithin (interval : Interval) : Type 0 where
   pub least : (seconds : ℕ) → interval ≡ Every seconds → 1 ≤ seconds
-  pub greatest : (seconds : ℕ) → interval ≡ Every seconds → seconds ≤ greatestInterval
+  pub greatest : (seconds : ℕ) → interval ≡ Every seconds → seconds ≤ 65535
 
 -- no timer is above this time, the scheduled handshake by the jitter at most, and the persistent keepalive is in range
 pub record TimersWithin (t : Timers) (most : ℕ) : Type 0 where
@@ -48,7 +48,7 @@ pub record TimersWithin (t : Timers) (most : ℕ) : Type 0 where
   pub kept : t .«time_persistent_keepalive» ≤ most
   pub receivedWithoutReply : TimeWithin (t .«last_data_received_without_reply») most
   pub sentWithoutReply : TimeWithin (t .«first_data_sent_without_reply») most
-  pub scheduled : TimeWithin (t .«send_handshake_at») (most + maxJitter)
+  pub scheduled : TimeWithin (t .«send_handshake_at») (most + 333000000)
   pub interval : IntervalWithin (t .«persistent_keepalive»)
 
 -- timers that all stand at one time

@@ -4,7 +4,7 @@ use mathlib.Core.List.{List}
 use Prim.Native.Nat.{ℕ}
 use lib.Dec.{ltb, eqb}
 use Rattle.base.specs.Choice.{choose}
-use Rattle.tunnel.specs.Control.{Turn, newControl, outcome, pollEvent, missingReport}
+use Rattle.tunnel.specs.Control.{Turn, newControl, outOf, pollEvent, missingReport}
 use Rattle.tunnel.specs.PollTimeout.{pollTimeout}
 use Rattle.tunnel.specs.InitiateHandshake.{startHandshake, restartHandshake}
 use Rattle.tunnel.specs.HandleHandshake.{handleHandshakeInitiation, handleHandshakeResponse, handleCookieReply}
@@ -27,16 +27,24 @@ abbrev pub answered : Tunnel → Answer → Answered
 answered t answer = record { tunnel = t; answer = answer }
 
 -- the tunnel that a creation makes
-unfoldable pub made : (index keepalive now : ℕ) → Tunnel
-made index keepalive now = record { control = newControl index (intervalOf keepalive) now; «last_update» = now; greatest = now }
+unfoldable pub newTunnel : (index keepalive now : ℕ) → Tunnel
+newTunnel index keepalive now = record { control = newControl index (intervalOf keepalive) now; «last_update» = now; greatest = now }
+
+-- the number that turns down a call at a time, or 0: `sound` is whether number 14 lets the tunnel through
+abbrev pub tested : (bad sound : Bool) → (greatest now : ℕ) → ℕ
+tested bad sound greatest now = choose (ltb timeLimit now) 1 (choose bad 2 (choose sound (choose (ltb now greatest) 13 0) 14))
 
 -- the number that turns down a call at a time, or 0
 unfoldable pub gate : Tunnel → Bool → ℕ → ℕ
-gate t bad now = choose (ltb timeLimit now) 1 (choose bad 2 (choose (undamaged t) (choose (ltb now (t .greatest)) 13 0) 14))
+gate t bad now = tested bad (undamaged t) (t .greatest) now
+
+-- the number that turns down a call without a time, or 0
+abbrev pub testedTimeless : (bad sound : Bool) → ℕ
+testedTimeless bad sound = choose bad 2 (choose sound 0 14)
 
 -- the number that turns down a call without a time, or 0
 unfoldable pub timelessGate : Tunnel → Bool → ℕ
-timelessGate t bad = choose bad 2 (choose (undamaged t) 0 14)
+timelessGate t bad = testedTimeless bad (undamaged t)
 
 -- a call that a check turns down
 unfoldable pub refused : Tunnel → ℕ → Answered
@@ -87,8 +95,8 @@ timedBatch t bad now store verdicts batch =
 unfoldable pub callNew : List ℕ → (index keepalive now : ℕ) → Called
 callNew store index keepalive now =
     choose (eqb (creationNumber store keepalive now) 0)
-    (record { answered = answered (made index keepalive now) Done; store = zeros 1024 })
-    (record { answered = refused (made 0 0 0) (creationNumber store keepalive now); store = store })
+    (record { answered = answered (newTunnel index keepalive now) Done; store = zeros 1024 })
+    (record { answered = refused (newTunnel 0 0 0) (creationNumber store keepalive now); store = store })
 
 -- starting
 unfoldable pub callStart : Tunnel → ℕ → Answered
@@ -139,7 +147,7 @@ callEvent t = timeless t false (pollEvent (t .control))
 
 -- the deadline
 unfoldable pub callDeadline : Tunnel → Answered
-callDeadline t = timeless t false (outcome (t .control) (Deadline (pollTimeout (t .control) (t .«last_update»))) false false)
+callDeadline t = timeless t false (outOf (t .control) (Deadline (pollTimeout (t .control) (t .«last_update»))) false false)
 
 -- the missing report
 unfoldable pub callMissing : Tunnel → List ℕ → ℕ → Answered

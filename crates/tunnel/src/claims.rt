@@ -8,6 +8,8 @@ ghost use Rattle.tunnel.specs.Quiet.{QuietLaw};
 ghost use Rattle.tunnel.specs.declared.control.Control.{Control};
 ghost use mathlib.Core.Path.{_≡_};
 ghost use lib.ListN.{length};
+ghost use Rattle.tunnel.specs.AfterStates.{AfterStates, GreatestLaw, StillLaw, EventLaw, NoneCurrent, ExpiredLaw};
+ghost use Rattle.tunnel.specs.Numbers.{NumbersLaw};
 ghost use Rattle.tunnel.specs.Deadline.{DeadlineLaw};
 ghost use Rattle.tunnel.specs.Sound.{Sound, SoundLaw, StoreLaw, CreatedLaw};
 ghost use Rattle.tunnel.specs.declared.tunnel.Tunnel.{Tunnel};
@@ -50,4 +52,34 @@ pub fn setting_law()
 // A response that opened makes its session the current one and is answered with that session's first counter.
 pub fn response_law()
     ensures { λ r. ⌜ ((t : Tunnel) → Sound t → (handshake : Handshake) (store : List ℕ) (receiver peer now : ℕ) → t .greatest ≤ now → length store ≡ 1024 → ResponseLaw (t .control) handshake store receiver peer now) ⌝ }
+{}
+
+// A call that is turned down hands back the tunnel, the store and the verdict list as they came, with two exceptions.
+pub fn after_states_law()
+    ensures { λ r. ⌜ ((t : Tunnel) (store : List ℕ) → length (t .control .sessions .slots) ≡ 8 → length (t .control .events .slots) ≡ 16 → AfterStates t store) ⌝ }
+{}
+
+// Every call with a time that is not turned down, save the early look, leaves the greatest time at its own.
+pub fn greatest_law()
+    ensures { λ r. ⌜ ((t : Tunnel) (store : List ℕ) → GreatestLaw t store) ⌝ }
+{}
+
+// An empty batch, and a waking, start or restart that answers nothing, raise the greatest time only, and an expired tunnel has no deadline.
+pub fn still_law()
+    ensures { λ r. ⌜ ((t : Tunnel) (store : List ℕ) → StillLaw t store) ⌝ }
+{}
+
+// The event call answers the oldest of the queued events and takes it off, and changes nothing else.
+pub fn event_law()
+    ensures { λ r. ⌜ ((t : Tunnel) → length (t .control .events .slots) ≡ 16 → EventLaw t) ⌝ }
+{}
+
+// The number that turns a call down is that of the first of its conditions that fails, in the order 1, 2, 14, 13 and 11.
+pub fn numbers_law()
+    ensures { λ r. ⌜ ((t : Tunnel) (store : List ℕ) → NumbersLaw t store) ⌝ }
+{}
+
+// Every call that is handed a tunnel which, if expired, has no current session hands back such a one, and so does a creation.
+pub fn expired_law()
+    ensures { λ r. ⌜ ((t : Tunnel) (store : List ℕ) → NoneCurrent t → ExpiredLaw t store) ⌝ }
 {}

@@ -43,7 +43,7 @@ impl Control {
         self.done(Answer::Granted(Range {
             peer: counted.sending_index,
             first,
-            length: count,
+            len: count,
         }))
     }
 

@@ -13,12 +13,10 @@ use crate::control::Control;
 use crate::control::Out;
 use sessions::store::zero;
 ghost use mathlib.Core.Path.{_≡_};
-ghost use lib.Dec.{ltb};
 ghost use Rattle.base.specs.Choice.{choose};
 ghost use Rattle.sessions.specs.Batch.{LeavesBatch};
-ghost use Rattle.sessions.specs.Session.{timeLimit};
 ghost use Rattle.sessions.specs.Store.{Leaves};
-ghost use Rattle.tunnel.specs.Tunnel.{made, refused, settled, callNew, callStart, callRestart, callSend, callReceive, callLook, callInitiation, callResponse, callCookie, callTimeout, callEvent, callDeadline, callMissing};
+ghost use Rattle.tunnel.specs.Tunnel.{tested, testedTimeless, newTunnel, refused, settled, callNew, callStart, callRestart, callSend, callReceive, callLook, callInitiation, callResponse, callCookie, callTimeout, callEvent, callDeadline, callMissing};
 
 // The greatest time that a call may have.
 pub const TIME_LIMIT: u64 = 4_000_000_000_000_000_000;
@@ -50,7 +48,7 @@ fn set_if(sets: bool, now: u64, before: u64) -> u64
 
 // The number that turns down a call at a time, or 0: `sound` is whether number 14 lets the tunnel through.
 fn gate(bad: bool, sound: bool, greatest: u64, now: u64) -> u8
-    ensures { λ r. ⌜ r ≡ choose (ltb timeLimit now) 1 (choose bad 2 (choose sound (choose (ltb now greatest) 13 0) 14)) ⌝ }
+    ensures { λ r. ⌜ r ≡ tested bad sound greatest now ⌝ }
 {
     if now > TIME_LIMIT {
         return 1;
@@ -58,32 +56,26 @@ fn gate(bad: bool, sound: bool, greatest: u64, now: u64) -> u8
     if bad {
         return 2;
     }
-    if sound {
-        if now < greatest {
-            return 13;
-        }
-        return 0;
+    if !sound {
+        return 14;
     }
-    14
+    if now < greatest {
+        return 13;
+    }
+    0
 }
 
-// The number that turns down a call without a time, or 0.
+// The number that turns down a call without a time, or 0: as at time 0 of a tunnel whose greatest time is 0.
 fn timeless_gate(bad: bool, sound: bool) -> u8
-    ensures { λ r. ⌜ r ≡ choose bad 2 (choose sound 0 14) ⌝ }
+    ensures { λ r. ⌜ r ≡ testedTimeless bad sound ⌝ }
 {
-    if bad {
-        return 2;
-    }
-    if sound {
-        return 0;
-    }
-    14
+    gate(bad, sound, 0, 0)
 }
 
 impl Tunnel {
     // The tunnel that a creation makes.
-    fn made(index: u32, keepalive: u64, now: u64) -> Tunnel
-        ensures { λ r. ⌜ r ≡ made index keepalive now ⌝ }
+    fn new_tunnel(index: u32, keepalive: u64, now: u64) -> Tunnel
+        ensures { λ r. ⌜ r ≡ newTunnel index keepalive now ⌝ }
     {
         Tunnel {
             control: Control::new(index, interval_of(keepalive), now),
@@ -123,12 +115,12 @@ impl Tunnel {
     {
         let number = creation_number(store, keepalive, now);
         if number != 0 {
-            let none = Tunnel::made(0, 0, 0);
+            let none = Tunnel::new_tunnel(0, 0, 0);
             return none.refused(number);
         }
         zero(store);
         Answered {
-            tunnel: Tunnel::made(index, keepalive, now),
+            tunnel: Tunnel::new_tunnel(index, keepalive, now),
             answer: Answer::Done,
         }
     }

@@ -8,7 +8,7 @@ use lib.ListN.{length, getD}
 use Rattle.base.specs.Choice.{choose}
 use Rattle.base.specs.Lists.{zeros, onesOf}
 use Rattle.base.specs.Sums.{sum}
-use Rattle.window.specs.Window.{limit, bitAt, isInvalid, willAccept, nextAfter, wordsAfter}
+use Rattle.window.specs.Window.{bitAt, isInvalid, willAccept, nextAfter, wordsAfter}
 
 -- whether a counter is in a history
 unfoldable pub member : ℕ → List ℕ → Bool
@@ -48,10 +48,10 @@ pub record Represents (history words : List ℕ) (next : ℕ) : Type 0 where
   pub expects : next ≡ expected history
   pub bits : (y : ℕ) → next ≤ y → y < next + 8192 → bitAt words y ≡ past history y
 
--- the verdict that a history calls for is 0 exactly for a counter below LIMIT, at most 8,192 behind the next expected one and not in the history
+-- the verdict that a history calls for is 0 exactly for a counter below 2^64 - 8,193, at most 8,192 behind the next expected one and not in the history
 pub record JudgedLaw (history : List ℕ) (counter : ℕ) : Type 0 where
-  pub commits : counter < limit → expected history ≤ counter + 8192 → member counter history ≡ false → judged history counter ≡ 0
-  pub only : judged history counter ≡ 0 → (counter < limit) × (expected history ≤ counter + 8192) × (member counter history ≡ false)
+  pub commits : counter < 2 ^ 64 - 8193 → expected history ≤ counter + 8192 → member counter history ≡ false → judged history counter ≡ 0
+  pub only : judged history counter ≡ 0 → (counter < 2 ^ 64 - 8193) × (expected history ≤ counter + 8192) × (member counter history ≡ false)
 
 -- What words and a next expected counter that stand for a history do:
 pub record StandingLaw (history words : List ℕ) (next : ℕ) : Type 0 where
@@ -94,11 +94,11 @@ committed (counter ∷ counters) = choose (eqb (verdict (grown counters) counter
 pub record WindowLaw (counters : List ℕ) : Type 0 where
   -- a counter's verdict is the one that the committed counters call for
   pub judges : (counter : ℕ) → verdict (grown counters) counter ≡ judged (committed counters) counter
-  -- it commits exactly if it is below LIMIT, at most 8,192 behind next and was not committed before
-  pub commits : (counter : ℕ) → counter < limit → grown counters .next ≤ counter + 8192 → member counter (committed counters) ≡ false
+  -- it commits exactly if it is below 2^64 - 8,193, at most 8,192 behind next and was not committed before
+  pub commits : (counter : ℕ) → counter < 2 ^ 64 - 8193 → grown counters .next ≤ counter + 8192 → member counter (committed counters) ≡ false
       → verdict (grown counters) counter ≡ 0
   pub only : (counter : ℕ) → verdict (grown counters) counter ≡ 0
-      → (counter < limit) × (grown counters .next ≤ counter + 8192) × (member counter (committed counters) ≡ false)
+      → (counter < 2 ^ 64 - 8193) × (grown counters .next ≤ counter + 8192) × (member counter (committed counters) ≡ false)
   -- next is one more than the greatest committed counter, or 0
   pub expects : grown counters .next ≡ expected (committed counters)
   -- the set bits are as many as there are committed counters among the last 8,192 below next

@@ -1,4 +1,5 @@
-use Rattle.sessions.proofs.Batches.{fits-long, no-batch, none-receives, one-receives, wrong-store}
+use Rattle.sessions.proofs.Turned.{fits-long}
+use Rattle.sessions.proofs.Batches.{no-batch, none-receives, one-receives, wrong-store}
 use borrow.Author.Needs.{needs}
 use borrow.Author.Tests.{not-true, not-false}
 use Rattle.sessions.proofs.sessions.Sessions.receive.Statement.{statement}
