@@ -1,5 +1,6 @@
 -- What follows from the definitions: what the lookups find, which slots a call touches, how many words it leaves, which index is allocated, which
--- lists make a batch, which counters are left, and how a range is cut.
+-- lists make a batch, what a batch leaves that is turned down or empty, which numbers an early look gives, which counters are left, and how a
+-- range is cut.
 use mathlib.Core.Path.{_≡_}
 use mathlib.Core.Bool.{true, false}
 use mathlib.Core.List.{List, [], _∷_}

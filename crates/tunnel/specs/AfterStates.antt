@@ -1,5 +1,5 @@
 -- What a call leaves: all as it came where it is turned down, save two calls; its own time as the greatest where it is not; and which calls
--- change nothing else or nothing at all.
+-- change nothing else or nothing at all; what the event call takes; and that an expired tunnel has no current session.
 use mathlib.Core.Path.{_≡_}
 use mathlib.Core.Bool.{true}
 use mathlib.Core.List.{List, []}

@@ -38,7 +38,7 @@ tested bad sound greatest now = choose (ltb timeLimit now) 1 (choose bad 2 (choo
 unfoldable pub gate : Tunnel → Bool → ℕ → ℕ
 gate t bad now = tested bad (undamaged t) (t .greatest) now
 
--- the number that turns down a call without a time, or 0
+-- the same of a call without a time
 abbrev pub testedTimeless : (bad sound : Bool) → ℕ
 testedTimeless bad sound = choose bad 2 (choose sound 0 14)
 
