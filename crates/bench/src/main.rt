@@ -1,7 +1,9 @@
 // Makes one call over and over, so that its instructions can be counted: standard input has the case's letter, the pattern of the
-// counters, the length of a batch, and then a byte for each turn. It writes four numbers of the tunnel as the turns left it.
+// counters, the length of a batch, and then a byte for each turn. It writes four numbers of the tunnel as the turns left it, or, where
+// datagrams are read or headers written, a sum.
 mod begin;
 mod counters;
+mod datagrams;
 mod day;
 mod turns;
 
@@ -9,6 +11,7 @@ use crate::begin::INDEX;
 use crate::begin::begun;
 use crate::begin::weight;
 use crate::counters::fill;
+use crate::datagrams::datagrams;
 use crate::day::rounds;
 use crate::turns::deadlines;
 use crate::turns::events;
@@ -126,17 +129,17 @@ fn run(
     }
 }
 
-// A verdict as a wide number.
-fn wide(verdict: u8) -> u64 {
-    verdict as u64
+// A byte as a wide number.
+fn wide(byte: u8) -> u64 {
+    byte as u64
 }
 
-// The sum of the verdicts.
-fn sum(verdicts: &[u8]) -> u64 {
+// The sum of bytes.
+fn sum(bytes: &[u8]) -> u64 {
     let mut total = 0;
     let mut i = 0;
-    while i < verdicts.len() {
-        total = std::num::wrapping_add_u64(total, wide(verdicts[i]));
+    while i < bytes.len() {
+        total = std::num::wrapping_add_u64(total, wide(bytes[i]));
         i = i + 1;
     }
     total
@@ -158,15 +161,23 @@ fn report(tunnel: Tunnel, store: &[u64], verdicts: &[u8]) {
     io::write_all(STDOUT_FILENO, b"\n");
 }
 
-fn main() {
-    let mut input = io::large_buffer();
+// The cases of datagrams.
+fn datagram_case(case: u8, input: &[u8]) {
+    if input.len() < 3 {
+        return;
+    }
+    let mut bytes = [0u8; 65536];
+    let total = datagrams(&mut bytes, case, &input[3..]);
+    io::print_decimal(STDOUT_FILENO, total);
+    io::write_all(STDOUT_FILENO, b"\n");
+}
+
+// The cases of a tunnel.
+fn tunnel_case(asked: Asked) {
     let mut store = [0u64; 1024];
     let mut counters = [0u64; 65536];
     let kinds = [0u8; 1024];
     let mut verdicts = [0u8; 1024];
-    let got = libc::read(STDIN_FILENO, &mut input);
-    let count = io::count(got, &input);
-    let asked = ask(&input[..count]);
     fill(&mut counters, asked.pattern);
     let tunnel = run(
         begun(asked.case, &mut store),
@@ -177,4 +188,16 @@ fn main() {
         &mut verdicts,
     );
     report(tunnel, &store, &verdicts);
+}
+
+fn main() {
+    let mut input = io::large_buffer();
+    let got = libc::read(STDIN_FILENO, &mut input);
+    let count = io::count(got, &input);
+    let asked = ask(&input[..count]);
+    let case = asked.case;
+    match case {
+        b'g' | b'w' => datagram_case(case, &input[..count]),
+        _ => tunnel_case(asked),
+    }
 }

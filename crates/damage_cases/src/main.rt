@@ -1,5 +1,5 @@
 // Damaged tunnels and arguments out of range: a damaged tunnel for each clause of number 14, and each call with it; stores and lists
-// of wrong length; what number 14 does not look at; the order of the checks; and batches that find no live session. A call that is
+// of wrong length, a header's too; what number 14 does not look at; the order of the checks; and batches that find no live session. A call that is
 // turned down must hand everything back as it came: the tunnel is compared field by field, the store and the verdicts element by
 // element. Lists that are lent for reading only cannot change.
 mod arguments;
@@ -10,6 +10,7 @@ mod creation;
 mod damage;
 mod every;
 mod fields;
+mod header;
 mod judge;
 mod order;
 mod request;
@@ -22,6 +23,7 @@ use crate::arguments::argument_groups;
 use crate::batches::batch_groups;
 use crate::clauses::clause_groups;
 use crate::creation::creation_groups;
+use crate::header::header_groups;
 use crate::order::order_groups;
 
 fn main() {
@@ -30,4 +32,5 @@ fn main() {
     order_groups();
     batch_groups();
     creation_groups();
+    header_groups();
 }

@@ -36,9 +36,9 @@ fn flush(waiting: usize, out: &[u8]) {
     }
 }
 
-// Writes out what waits if a further answer might not fit, and answers how much waits then: the longest has 1,024 verdicts.
+// Writes out what waits if a further answer might not fit, and answers how much waits then: 196,608 bytes are free for it.
 fn make_room(waiting: usize, out: &[u8]) -> usize {
-    if waiting > 61440 {
+    if waiting > 65536 {
         flush(waiting, out);
         return 0;
     }
@@ -46,7 +46,13 @@ fn make_room(waiting: usize, out: &[u8]) -> usize {
 }
 
 // The line that was gathered; one that is too long cannot be read.
-fn gathered_line(console: Console, line: &[u8], counters: &mut [u64], kinds: &mut [u8]) -> Line {
+fn gathered_line(
+    console: Console,
+    line: &[u8],
+    counters: &mut [u64],
+    kinds: &mut [u8],
+    bytes: &mut [u8],
+) -> Line {
     let gathered = console.gathered;
     let len = gathered.len;
     if gathered.long {
@@ -55,7 +61,7 @@ fn gathered_line(console: Console, line: &[u8], counters: &mut [u64], kinds: &mu
     if len > line.len() {
         return Line::Unreadable;
     }
-    admitted(read(&line[..len], counters, kinds), console.started)
+    admitted(read(&line[..len], counters, kinds, bytes), console.started)
 }
 
 // Whether a tunnel has been made once a line is answered.
@@ -72,13 +78,14 @@ fn answer(
     line: Line,
     answer: Answer,
     verdicts: &[u8],
+    bytes: &[u8],
     out: &mut [u8],
 ) -> Console {
     let at = make_room(console.written, out);
     Console {
         started: starts_with(console.started, line),
         gathered: Gathered::new(),
-        written: put_line(out, at, line, answer, verdicts),
+        written: put_line(out, at, line, answer, verdicts, bytes),
     }
 }
 
@@ -88,11 +95,12 @@ fn settle(
     console: Console,
     asked: Line,
     verdicts: &[u8],
+    bytes: &[u8],
     out: &mut [u8],
 ) -> Progress {
     let tunnel = answered.tunnel;
     let reply = answered.answer;
-    let after = answer(console, asked, reply, verdicts, out);
+    let after = answer(console, asked, reply, verdicts, bytes, out);
     Progress {
         tunnel,
         console: after,
@@ -100,12 +108,18 @@ fn settle(
 }
 
 // Makes the call of the line that was gathered, and puts its answer.
-fn end_line(progress: Progress, line: &[u8], store: &mut [u64], out: &mut [u8]) -> Progress {
+fn end_line(
+    progress: Progress,
+    line: &[u8],
+    bytes: &mut [u8],
+    store: &mut [u64],
+    out: &mut [u8],
+) -> Progress {
     let mut counters = [0u64; 1025];
     let mut kinds = [0u8; 1025];
     let mut verdicts = [0u8; 1025];
     let console = progress.console;
-    let asked = gathered_line(console, line, &mut counters, &mut kinds);
+    let asked = gathered_line(console, line, &mut counters, &mut kinds, bytes);
     let answered = call(
         progress.tunnel,
         asked,
@@ -114,7 +128,7 @@ fn end_line(progress: Progress, line: &[u8], store: &mut [u64], out: &mut [u8]) 
         &kinds,
         &mut verdicts,
     );
-    settle(answered, console, asked, &verdicts, out)
+    settle(answered, console, asked, &verdicts, bytes, out)
 }
 
 // The console with the bytes up to the next newline.
@@ -131,6 +145,7 @@ fn take_part(
     mut progress: Progress,
     input: &[u8],
     line: &mut [u8],
+    bytes: &mut [u8],
     store: &mut [u64],
     out: &mut [u8],
 ) -> Progress {
@@ -142,7 +157,7 @@ fn take_part(
             return progress;
         }
         at = end + 1;
-        progress = end_line(progress, line, store, out);
+        progress = end_line(progress, line, bytes, store, out);
     }
     progress
 }
@@ -183,21 +198,38 @@ fn to_take(console: Console, came: usize, input: &mut [u8]) -> usize
     0
 }
 
+// Takes the bytes that came, and writes out what waits then.
+fn take_input(
+    mut progress: Progress,
+    came: usize,
+    input: &mut [u8],
+    line: &mut [u8],
+    bytes: &mut [u8],
+    store: &mut [u64],
+    out: &mut [u8],
+) -> Progress
+    requires { ⌜ came ≤ length (now input) ⌝ }
+{
+    let n = to_take(progress.console, came, input);
+    progress = take_part(progress, &input[..n], line, bytes, store, out);
+    progress.console = emptied(progress.console, out);
+    progress
+}
+
 // A proved loop has to end, and nothing says that the input does. So the loop counts its turns down, from a number that no run
 // uses up.
 fn take_all(
     mut progress: Progress,
     input: &mut [u8],
     line: &mut [u8],
+    bytes: &mut [u8],
     store: &mut [u64],
     out: &mut [u8],
 ) {
     let mut turns = u64::MAX;
     while turns > 0 {
         let came = read_input(input);
-        let n = to_take(progress.console, came, input);
-        progress = take_part(progress, &input[..n], line, store, out);
-        progress.console = emptied(progress.console, out);
+        progress = take_input(progress, came, input, line, bytes, store, out);
         if came == 0 {
             return;
         }
@@ -220,8 +252,16 @@ fn fresh(store: &mut [u64]) -> Progress {
 fn main() {
     let mut input = io::large_buffer();
     let mut line = io::large_buffer();
-    let mut out = io::large_buffer();
+    let mut bytes = [0u8; 32768];
+    let mut out = [0u8; 262144];
     let mut store = [0u64; 1024];
     let progress = fresh(&mut store);
-    take_all(progress, &mut input, &mut line, &mut store, &mut out);
+    take_all(
+        progress,
+        &mut input,
+        &mut line,
+        &mut bytes,
+        &mut store,
+        &mut out,
+    );
 }

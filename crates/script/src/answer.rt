@@ -1,4 +1,6 @@
 // Answers in text.
+use crate::datagram::put_datagram;
+use crate::datagram::put_header;
 use crate::line::Line;
 use sessions::range::Range;
 use sessions::range::Split;
@@ -225,7 +227,14 @@ fn put_received(
 }
 
 // Puts what a line's call answered.
-fn put_reply(out: &mut [u8], at: usize, line: Line, answer: Answer, verdicts: &[u8]) -> usize {
+fn put_reply(
+    out: &mut [u8],
+    at: usize,
+    line: Line,
+    answer: Answer,
+    verdicts: &[u8],
+    bytes: &[u8],
+) -> usize {
     if let Line::Recv {
         index: _,
         session: _,
@@ -242,11 +251,24 @@ fn put_reply(out: &mut [u8], at: usize, line: Line, answer: Answer, verdicts: &[
     } = line {
         return put_cut(out, at, peer, first, len, cut);
     }
+    if let Line::Datagram { len } = line {
+        return put_datagram(out, at, len, bytes);
+    }
+    if let Line::Header { receiver, counter } = line {
+        return put_header(out, at, receiver, counter);
+    }
     put_answer(out, at, answer)
 }
 
 // Puts the line that answers a line.
-pub fn put_line(out: &mut [u8], at: usize, line: Line, answer: Answer, verdicts: &[u8]) -> usize {
-    let end = put_reply(out, at, line, answer, verdicts);
+pub fn put_line(
+    out: &mut [u8],
+    at: usize,
+    line: Line,
+    answer: Answer,
+    verdicts: &[u8],
+    bytes: &[u8],
+) -> usize {
+    let end = put_reply(out, at, line, answer, verdicts, bytes);
     put(out, end, b'\n')
 }

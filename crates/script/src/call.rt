@@ -94,7 +94,7 @@ fn call_receive(
     )
 }
 
-// Makes a line's call. A line that cannot be read is turned down, and a split asks nothing of the tunnel.
+// Makes a line's call. A line that cannot be read is turned down; a split, a datagram and a header ask nothing of the tunnel.
 pub fn call(
     tunnel: Tunnel,
     line: Line,
@@ -138,6 +138,17 @@ pub fn call(
             first: _,
             len: _,
             at: _,
+        } => return Answered {
+            tunnel,
+            answer: Answer::Done,
+        },
+        Line::Datagram { len: _ } => return Answered {
+            tunnel,
+            answer: Answer::Done,
+        },
+        Line::Header {
+            receiver: _,
+            counter: _,
         } => return Answered {
             tunnel,
             answer: Answer::Done,

@@ -8,6 +8,8 @@ use crate::numbers::indices_of;
 use crate::numbers::numbers_of;
 use crate::numbers::read_numbers;
 use crate::numbers::readable;
+use text::hex::Hex;
+use text::hex::read_hex;
 use text::word::skip_spaces;
 use text::word::word_end;
 
@@ -70,10 +72,18 @@ pub enum Line {
         len: u64,
         at: u64,
     },
+    // The datagram stands in the list that was lent: its first so many bytes.
+    Datagram {
+        len: usize,
+    },
+    Header {
+        receiver: u32,
+        counter: u64,
+    },
 }
 
-// The line of a call with its numbers, and with so many messages where it is a batch.
-fn line_of(name: Name, n: Numbers, messages: usize) -> Line {
+// The line of a call with its numbers, and with so many messages or bytes where the lists that were lent hold any.
+fn line_of(name: Name, n: Numbers, held: usize) -> Line {
     let index = (n.first % 4294967296) as u32;
     match name {
         Name::Unknown => Line::Unreadable,
@@ -108,7 +118,7 @@ fn line_of(name: Name, n: Numbers, messages: usize) -> Line {
             index,
             session: n.second,
             time: n.third,
-            messages,
+            messages: held,
         },
         Name::Look => Line::Session(SessionCall::Look {
             index,
@@ -127,6 +137,11 @@ fn line_of(name: Name, n: Numbers, messages: usize) -> Line {
             first: n.second,
             len: n.third,
             at: n.fourth,
+        },
+        Name::Datagram => Line::Datagram { len: held },
+        Name::Header => Line::Header {
+            receiver: index,
+            counter: n.second,
         },
     }
 }
@@ -147,6 +162,22 @@ fn read_recv(numbers: Numbers, line: &[u8], counters: &mut [u64], kinds: &mut [u
     line_of(Name::Recv, numbers, messages)
 }
 
+// The line of a datagram: a word of hexadecimal digits, the last of the line, follows the numbers.
+fn read_bytes(numbers: Numbers, line: &[u8], bytes: &mut [u8]) -> Line {
+    let start = numbers.next;
+    let end = word_end(line, start);
+    if start >= end {
+        return Line::Unreadable;
+    }
+    if skip_spaces(line, end) < line.len() {
+        return Line::Unreadable;
+    }
+    let Hex::Held(len) = read_hex(&line[start..end], bytes) else {
+        return Line::Unreadable;
+    };
+    line_of(Name::Datagram, numbers, len)
+}
+
 // Reads the arguments of a call.
 fn read_arguments(
     name: Name,
@@ -154,6 +185,7 @@ fn read_arguments(
     at: usize,
     counters: &mut [u64],
     kinds: &mut [u8],
+    bytes: &mut [u8],
 ) -> Line {
     let numbers = read_numbers(line, at, numbers_of(name));
     if !readable(numbers, indices_of(name)) {
@@ -162,11 +194,14 @@ fn read_arguments(
     if let Name::Recv = name {
         return read_recv(numbers, line, counters, kinds);
     }
+    if let Name::Datagram = name {
+        return read_bytes(numbers, line, bytes);
+    }
     whole_line(name, numbers, line)
 }
 
-// Reads a line. The messages of a batch go into the lists.
-pub fn read(line: &[u8], counters: &mut [u64], kinds: &mut [u8]) -> Line {
+// Reads a line. The messages of a batch go into the lists of counters and kinds, a datagram into the list of bytes.
+pub fn read(line: &[u8], counters: &mut [u64], kinds: &mut [u8], bytes: &mut [u8]) -> Line {
     let start = skip_spaces(line, 0);
     let end = word_end(line, start);
     if start >= end {
@@ -174,7 +209,7 @@ pub fn read(line: &[u8], counters: &mut [u64], kinds: &mut [u8]) -> Line {
     }
     let name = call_name(&line[start..end]);
     let at = skip_spaces(line, end);
-    read_arguments(name, line, at, counters, kinds)
+    read_arguments(name, line, at, counters, kinds, bytes)
 }
 
 // Whether a line makes a tunnel.

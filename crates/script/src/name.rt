@@ -18,6 +18,8 @@ pub enum Name {
     Next,
     Missing,
     Split,
+    Datagram,
+    Header,
 }
 
 // The name of a handshake's call.
@@ -40,7 +42,18 @@ fn handshake_name(word: &[u8]) -> Name {
     Name::Unknown
 }
 
-// The name of a question, or of a handshake's call.
+// The name of a line about datagrams or of a call about a handshake.
+fn datagram_name(word: &[u8]) -> Name {
+    if same(word, b"datagram") {
+        return Name::Datagram;
+    }
+    if same(word, b"header") {
+        return Name::Header;
+    }
+    handshake_name(word)
+}
+
+// The name of a question, of a line about datagrams or of a call about a handshake.
 fn question_name(word: &[u8]) -> Name {
     if same(word, b"event") {
         return Name::Event;
@@ -54,7 +67,7 @@ fn question_name(word: &[u8]) -> Name {
     if same(word, b"split") {
         return Name::Split;
     }
-    handshake_name(word)
+    datagram_name(word)
 }
 
 // The name that a word is.

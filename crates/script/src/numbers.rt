@@ -31,6 +31,8 @@ pub fn numbers_of(name: Name) -> u64 {
         Name::Next => 0,
         Name::Missing => 1,
         Name::Split => 4,
+        Name::Datagram => 0,
+        Name::Header => 2,
     }
 }
 
@@ -52,6 +54,8 @@ pub fn indices_of(name: Name) -> u64 {
         Name::Next => 0,
         Name::Missing => 1,
         Name::Split => 1,
+        Name::Datagram => 0,
+        Name::Header => 1,
     }
 }
 

@@ -50,7 +50,7 @@ module _ (now : List ℕ) (at byte : ℕ) where
 
 -- a byte, and a text after it
 module _ (came : List ℕ) (at byte : ℕ) where
-  puts-cons : (mid : List ℕ) (next : ℕ) (text left : List ℕ) (end : ℕ) → Puts came at (byte ∷ []) mid next → Puts mid next text left end
+  pub puts-cons : (mid : List ℕ) (next : ℕ) (text left : List ℕ) (end : ℕ) → Puts came at (byte ∷ []) mid next → Puts mid next text left end
       → Puts came at (byte ∷ text) left end
   unfolding putBytes
   puts-cons mid next text left end p q = record { buffer = q .buffer ∙ ap (λ (b : Buffer). putBytes b text) (p .buffer) }

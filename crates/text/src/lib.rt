@@ -1,4 +1,5 @@
-// Lines, words, numbers and text in bytes. Functions on slices; no input or output.
+// Lines, words, numbers, bytes in hexadecimal digits, and text. Functions on slices; no input or output.
 pub mod gather;
+pub mod hex;
 pub mod text;
 pub mod word;

@@ -5,12 +5,12 @@ use Rattle.bench.proofs.sum.Statement.{statement}
 use Rattle.bench.proofs.sum.Tie as tie
 
 abbrev Inv-loop : tie.InvT-loop
-Inv-loop verdicts total₀ i₀ total i =
-    i ≤ length verdicts
+Inv-loop bytes total₀ i₀ total i =
+    i ≤ length bytes
 
 abbrev μ-loop : tie.MeasureT-loop
-μ-loop verdicts total₀ i₀ total i =
-    length verdicts - i
+μ-loop bytes total₀ i₀ total i =
+    length bytes - i
 
 loop-holds : tie.Need-loop-holds Inv-loop μ-loop
 loop-holds c = search needs

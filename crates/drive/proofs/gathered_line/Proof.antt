@@ -24,11 +24,15 @@ same-length c = search needs
 same-length-2 : tie.Need-same-length-2
 same-length-2 c = search needs
 
+same-length-3 : tie.Need-same-length-3
+same-length-3 c = search needs
+
 returns-3 : tie.Need-returns-3
 returns-3 c = search needs
 
 pub gathered-line-spec : {M : Type 1} → statement M
-gathered-line-spec = tie.close
+gathered-line-spec =
+    tie.close
     (tie.spec
     returns
     returns-2
@@ -37,4 +41,5 @@ gathered-line-spec = tie.close
     admitted-requires
     same-length
     same-length-2
+    same-length-3
     returns-3)

@@ -65,6 +65,18 @@ enum-told-2 c = search needs
 returns-6 : tie.Need-returns-6
 returns-6 c = search needs
 
+enum-told-3 : tie.Need-enum-told-3
+enum-told-3 c = search needs
+
+returns-7 : tie.Need-returns-7
+returns-7 c = search needs
+
+enum-told-4 : tie.Need-enum-told-4
+enum-told-4 c = search needs
+
+returns-8 : tie.Need-returns-8
+returns-8 c = search needs
+
 pub call-spec : {M : Type 1} → statement M
 call-spec = tie.close
     (tie.spec
@@ -88,4 +100,8 @@ call-spec = tie.close
     same-length-5
     returns-5
     enum-told-2
-    returns-6)
+    returns-6
+    enum-told-3
+    returns-7
+    enum-told-4
+    returns-8)

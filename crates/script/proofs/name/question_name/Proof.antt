@@ -38,8 +38,8 @@ same-requires-4 c κs = search needs
 returns-4 : tie.Need-returns-4
 returns-4 c = search needs
 
-handshake-name-requires : tie.Need-handshake-name-requires
-handshake-name-requires c κs = search needs
+datagram-name-requires : tie.Need-datagram-name-requires
+datagram-name-requires c κs = search needs
 
 returns-5 : tie.Need-returns-5
 returns-5 c = search needs
@@ -59,5 +59,5 @@ question-name-spec = tie.close
     slice-aggregate-same-4
     same-requires-4
     returns-4
-    handshake-name-requires
+    datagram-name-requires
     returns-5)

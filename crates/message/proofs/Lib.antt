@@ -1,0 +1,5 @@
+pub mod Datagrams
+pub mod Headers
+pub mod Laws
+pub mod Reading
+pub mod Writing

@@ -1,0 +1,52 @@
+use borrow.Author.Needs.{needs}
+use Rattle.base.proofs.Choice.{picks}
+use Rattle.message.specs.Message.{readData, field}
+use Rattle.message.proofs.read_data.Statement.{statement}
+use Rattle.message.proofs.read_data.Tie as tie
+
+returns : tie.Need-returns
+unfolding readData field
+returns c = search (needs, picks)
+
+sub-read-u32 : tie.Need-sub-read-u32
+sub-read-u32 c = search needs
+
+part-read-u32-start : tie.Need-part-read-u32-start
+part-read-u32-start c = search needs
+
+part-read-u32-end : tie.Need-part-read-u32-end
+part-read-u32-end c = search needs
+
+read-u32-requires : tie.Need-read-u32-requires
+read-u32-requires c κs = search needs
+
+sub-read-u64 : tie.Need-sub-read-u64
+sub-read-u64 c = search needs
+
+part-read-u64-start : tie.Need-part-read-u64-start
+part-read-u64-start c = search needs
+
+part-read-u64-end : tie.Need-part-read-u64-end
+part-read-u64-end c = search needs
+
+read-u64-requires : tie.Need-read-u64-requires
+read-u64-requires c κs = search needs
+
+returns-2 : tie.Need-returns-2
+unfolding readData field
+returns-2 c = search (needs, picks)
+
+pub read-data-spec : {M : Type 1} → statement M
+read-data-spec =
+    tie.close
+    (tie.spec
+    returns
+    sub-read-u32
+    part-read-u32-start
+    part-read-u32-end
+    read-u32-requires
+    sub-read-u64
+    part-read-u64-start
+    part-read-u64-end
+    read-u64-requires
+    returns-2)

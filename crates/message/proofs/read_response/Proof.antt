@@ -1,0 +1,52 @@
+use borrow.Author.Needs.{needs}
+use Rattle.base.proofs.Choice.{picks}
+use Rattle.message.specs.Message.{readResponse, field}
+use Rattle.message.proofs.read_response.Statement.{statement}
+use Rattle.message.proofs.read_response.Tie as tie
+
+returns : tie.Need-returns
+unfolding readResponse field
+returns c = search (needs, picks)
+
+sub-read-u32 : tie.Need-sub-read-u32
+sub-read-u32 c = search needs
+
+part-read-u32-start : tie.Need-part-read-u32-start
+part-read-u32-start c = search needs
+
+part-read-u32-end : tie.Need-part-read-u32-end
+part-read-u32-end c = search needs
+
+read-u32-requires : tie.Need-read-u32-requires
+read-u32-requires c κs = search needs
+
+sub-read-u32-2 : tie.Need-sub-read-u32-2
+sub-read-u32-2 c = search needs
+
+part-read-u32-start-2 : tie.Need-part-read-u32-start-2
+part-read-u32-start-2 c = search needs
+
+part-read-u32-end-2 : tie.Need-part-read-u32-end-2
+part-read-u32-end-2 c = search needs
+
+read-u32-requires-2 : tie.Need-read-u32-requires-2
+read-u32-requires-2 c κs = search needs
+
+returns-2 : tie.Need-returns-2
+unfolding readResponse field
+returns-2 c = search (needs, picks)
+
+pub read-response-spec : {M : Type 1} → statement M
+read-response-spec =
+    tie.close
+    (tie.spec
+    returns
+    sub-read-u32
+    part-read-u32-start
+    part-read-u32-end
+    read-u32-requires
+    sub-read-u32-2
+    part-read-u32-start-2
+    part-read-u32-end-2
+    read-u32-requires-2
+    returns-2)
