@@ -1,5 +1,5 @@
 //! Answers each call of a script with the original tunnel, and adds document 01's checks 1, 2
-//! and 13, the greatest time and the missing report.
+//! and 13, the greatest time and the missing report; datagrams are read and headers written beside it.
 
 use std::fmt;
 use std::num::NonZeroUsize;
@@ -11,6 +11,7 @@ use rand::rngs::StdRng;
 use zeroize::Zeroizing;
 
 use crate::crypto;
+use crate::datagram::{self, HEADER_LEN, Received};
 use crate::errors::Error;
 use crate::index::Index;
 use crate::keys::{PublicKey, StaticSecret};
@@ -24,6 +25,7 @@ use crate::session::{PendingEncapsulate, Plaintext};
 use crate::tai64n::{Tai64N, TimeStamper};
 use crate::timers::{MAX_JITTER, REJECT_AFTER_MESSAGES};
 use crate::tunnel::{Event, Tunnel, TunnelConfig};
+use crate::written::Hex;
 
 /// The greatest time that a call may give, in nanoseconds.
 const TIME_LIMIT: u64 = 4_000_000_000_000_000_000;
@@ -51,16 +53,43 @@ const TIME_WENT_BACK: Number = 13;
 pub enum Answer {
     Good,
     None,
-    Initiation { local: u32 },
-    Response { local: u32, peer: u32 },
-    Keepalive { peer: u32, counter: u64 },
+    Initiation {
+        local: u32,
+    },
+    Response {
+        local: u32,
+        peer: u32,
+    },
+    Keepalive {
+        peer: u32,
+        counter: u64,
+    },
     Range((u32, u64, u64)),
     Ranges((u32, u64, u64), (u32, u64, u64)),
     Verdicts(Vec<Number>),
-    Established { started: u64, confirmed: u64 },
+    Established {
+        started: u64,
+        confirmed: u64,
+    },
     Expired,
     At(u64),
     Missing(u32),
+    Type1 {
+        sender: u32,
+    },
+    Type2 {
+        sender: u32,
+        receiver: u32,
+    },
+    Type3 {
+        receiver: u32,
+    },
+    Type4 {
+        receiver: u32,
+        counter: u64,
+        encrypted: Vec<u8>,
+    },
+    Bytes(Vec<u8>),
 }
 
 impl fmt::Display for Answer {
@@ -83,6 +112,15 @@ impl fmt::Display for Answer {
             Answer::Expired => write!(f, "ok exp"),
             Answer::At(time) => write!(f, "ok at {time}"),
             Answer::Missing(count) => write!(f, "ok missing {count}"),
+            Answer::Type1 { sender } => write!(f, "ok type 1 {sender}"),
+            Answer::Type2 { sender, receiver } => write!(f, "ok type 2 {sender} {receiver}"),
+            Answer::Type3 { receiver } => write!(f, "ok type 3 {receiver}"),
+            Answer::Type4 {
+                receiver,
+                counter,
+                encrypted,
+            } => write!(f, "ok type 4 {receiver} {counter} {}", Hex(encrypted)),
+            Answer::Bytes(bytes) => write!(f, "ok bytes {}", Hex(bytes)),
         }
     }
 }
@@ -225,6 +263,8 @@ impl Held {
                 length,
                 at,
             } => split(peer, first, length, at),
+            Call::Datagram { bytes } => datagram::read(&bytes).map(received_answer),
+            Call::Header { receiver, counter } => Ok(header(receiver, counter)),
         }
     }
 
@@ -467,6 +507,32 @@ fn split(peer: u32, first: u64, length: u64, at: u64) -> Result<Answer, Number> 
     }))
 }
 
+/// What a datagram says.
+fn received_answer(received: Received<'_>) -> Answer {
+    match received {
+        Received::Initiation { sender } => Answer::Type1 { sender },
+        Received::Response { sender, receiver } => Answer::Type2 { sender, receiver },
+        Received::CookieReply { receiver } => Answer::Type3 { receiver },
+        Received::Data {
+            receiver,
+            counter,
+            encrypted,
+        } => Answer::Type4 {
+            receiver,
+            counter,
+            encrypted: encrypted.to_vec(),
+        },
+    }
+}
+
+/// The header of a data message.
+fn header(receiver: u32, counter: u64) -> Answer {
+    let mut header = [0; HEADER_LEN];
+    datagram::write_header(&mut header, receiver, counter);
+
+    Answer::Bytes(header.to_vec())
+}
+
 /// Turns down a time above the limit.
 fn within_limit(time: u64) -> Result<(), Number> {
     if time > TIME_LIMIT {
@@ -613,6 +679,61 @@ impl Held {
             initiator: session.initiator,
             next_sent: session.next_sent,
             next_received: session.next_received,
+        }
+    }
+}
+
+#[cfg(test)]
+mod tests {
+    use super::*;
+
+    /// A tunnel from index 256 at time 0.
+    fn tunnel() -> Held {
+        Held::new(Instant::now(), 256, 0, 0)
+    }
+
+    #[test]
+    fn the_datagrams_of_the_rust_read_back_to_their_fields() {
+        let mut held = tunnel();
+        let initiation = held.tunnel.initiate_handshake(held.base).expect("one");
+        let response = HandshakeResponse {
+            sender_idx: 0x0403_0201,
+            receiver_idx: 257,
+            unencrypted_ephemeral: [0; 32],
+            encrypted_nothing: [0; 16],
+        };
+        let keepalive = held.tunnel.handle_handshake_response(response, held.base);
+        let incoming = incoming_initiation(0x0807_0605, 0);
+        let response = held.tunnel.handle_handshake_initiation(incoming, held.base);
+
+        assert_eq!(
+            datagram::read(&initiation),
+            Ok(Received::Initiation { sender: 257 })
+        );
+        assert_eq!(
+            datagram::read(&keepalive.expect("a keepalive")),
+            Ok(Received::Data {
+                receiver: 0x0403_0201,
+                counter: 0,
+                encrypted: &[0; 16],
+            })
+        );
+        assert_eq!(
+            datagram::read(&response.expect("a response")),
+            Ok(Received::Response {
+                sender: 258,
+                receiver: 0x0807_0605,
+            })
+        );
+    }
+
+    #[test]
+    fn a_header_is_the_one_that_the_rust_makes() {
+        for receiver in [0, 1, 0x0403_0201, 1 << 31, u32::MAX] {
+            for counter in [0, 1, 0x0807_0605_0403_0201, 1 << 32, 1 << 63, u64::MAX] {
+                let expected = crate::session::access::header(receiver, counter);
+                assert_eq!(header(receiver, counter), Answer::Bytes(expected.to_vec()));
+            }
         }
     }
 }

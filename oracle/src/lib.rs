@@ -2,6 +2,8 @@
 //! scripts with it.
 
 mod crypto;
+mod datagram;
+mod datagram_speed;
 mod driver;
 mod errors;
 mod script;

@@ -73,6 +73,13 @@ pub enum Call {
         length: u64,
         at: u64,
     },
+    Datagram {
+        bytes: Vec<u8>,
+    },
+    Header {
+        receiver: u32,
+        counter: u64,
+    },
 }
 
 /// Reads the call of a line without its newline, or nothing where the line cannot be read.
@@ -148,6 +155,13 @@ fn read_call(words: &mut Words<'_>) -> Option<Call> {
             length: words.number_64()?,
             at: words.number_64()?,
         },
+        b"datagram" => Call::Datagram {
+            bytes: words.hex()?,
+        },
+        b"header" => Call::Header {
+            receiver: words.number_32()?,
+            counter: words.number_64()?,
+        },
         _ => return None,
     })
 }
@@ -217,6 +231,11 @@ impl<'a> Words<'a> {
             _ => None,
         }
     }
+
+    /// Takes bytes.
+    fn hex(&mut self) -> Option<Vec<u8>> {
+        hex(self.next()?)
+    }
 }
 
 /// Whether a byte separates words.
@@ -234,6 +253,31 @@ fn number(word: &[u8], bound: u64) -> Option<u64> {
     }
 
     Some(value).filter(|value| *value <= bound)
+}
+
+/// Reads bytes of two hexadecimal digits each, in either case; `-` stands for no bytes.
+fn hex(word: &[u8]) -> Option<Vec<u8>> {
+    if word == b"-" {
+        return Some(Vec::new());
+    }
+    if word.len() % 2 != 0 {
+        return None;
+    }
+    let bytes = word
+        .chunks_exact(2)
+        .map(|pair| Some(16 * hex_digit(pair[0])? + hex_digit(pair[1])?));
+
+    bytes.collect()
+}
+
+/// The value of a hexadecimal digit.
+fn hex_digit(digit: u8) -> Option<u8> {
+    match digit {
+        b'0'..=b'9' => Some(digit - b'0'),
+        b'a'..=b'f' => Some(digit - b'a' + 10),
+        b'A'..=b'F' => Some(digit - b'A' + 10),
+        _ => None,
+    }
 }
 
 /// The lines of a stream, read one at a time with a bounded amount of memory.

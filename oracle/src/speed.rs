@@ -11,6 +11,7 @@ use rand::SeedableRng;
 use rand::rngs::StdRng;
 use zeroize::Zeroizing;
 
+use crate::datagram_speed::datagrams;
 use crate::driver::{Number, incoming_initiation};
 use crate::errors::Error;
 use crate::index::Index;
@@ -60,6 +61,9 @@ pub fn speed(input: &[u8]) -> Option<String> {
     let &[case, pattern, length, ref turns @ ..] = input else {
         return None;
     };
+    if matches!(case, b'g' | b'w') {
+        return Some(datagrams(case, turns).to_string());
+    }
     let turns = turns.len();
     let mut run = match case {
         b'h' => Run::started(0),

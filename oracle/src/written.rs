@@ -1,4 +1,4 @@
-//! A call's time, and its line as a script has it.
+//! A call's time, and its line as a script has it; bytes as lines have them.
 
 use std::fmt;
 
@@ -32,7 +32,12 @@ impl Call {
             | Call::Recv { time, .. }
             | Call::Look { time, .. }
             | Call::Wake { time, .. } => Some(time),
-            Call::Event | Call::Next | Call::Missing { .. } | Call::Split { .. } => None,
+            Call::Event
+            | Call::Next
+            | Call::Missing { .. }
+            | Call::Split { .. }
+            | Call::Datagram { .. }
+            | Call::Header { .. } => None,
         }
     }
 }
@@ -90,6 +95,8 @@ impl fmt::Display for Call {
                 length,
                 at,
             } => write!(f, "split {peer} {first} {length} {at}"),
+            Call::Datagram { bytes } => write!(f, "datagram {}", Hex(bytes)),
+            Call::Header { receiver, counter } => write!(f, "header {receiver} {counter}"),
         }
     }
 }
@@ -101,5 +108,18 @@ impl fmt::Display for Opening {
             Opening::Keepalive => "k",
             Opening::Failed => "f",
         })
+    }
+}
+
+/// Bytes as hexadecimal digits in lower case; no bytes are `-`.
+pub(crate) struct Hex<'a>(pub(crate) &'a [u8]);
+
+impl fmt::Display for Hex<'_> {
+    fn fmt(&self, f: &mut fmt::Formatter<'_>) -> fmt::Result {
+        if self.0.is_empty() {
+            return f.write_str("-");
+        }
+
+        self.0.iter().try_for_each(|byte| write!(f, "{byte:02x}"))
     }
 }

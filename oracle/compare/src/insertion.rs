@@ -54,7 +54,7 @@ impl Maker {
             time,
         };
 
-        self.ask(created.to_string());
+        self.ask_driver(created.to_string());
         self.insertion = Some(Insertion {
             steps: Vec::new(),
             dropped,
@@ -76,8 +76,7 @@ impl Maker {
     /// Adds a shared call, perhaps with extra wakings before it; leaves out what is not a call on the tunnel.
     pub(crate) fn ask_both(&mut self, mut insertion: Insertion, line: &[u8]) -> Option<Answer> {
         let mut answer = None;
-        let call = oracle::read(line)
-            .filter(|call| !matches!(call, Call::New { .. } | Call::Split { .. }));
+        let call = oracle::read(line).filter(is_of_tunnel);
 
         if let Some(mut call) = call {
             if self.random.percent(insertion.rate) {
@@ -181,4 +180,12 @@ impl Maker {
             _ => greatest + self.random.below(20 * SECOND),
         }
     }
+}
+
+/// Whether a call is one on a tunnel that is there.
+fn is_of_tunnel(call: &Call) -> bool {
+    !matches!(
+        call,
+        Call::New { .. } | Call::Split { .. } | Call::Datagram { .. } | Call::Header { .. }
+    )
 }

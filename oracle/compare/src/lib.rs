@@ -2,6 +2,8 @@
 
 mod comparison;
 mod cut;
+mod datagram_moves;
+mod datagrams;
 mod exhaustive;
 mod insertion;
 mod maker;
@@ -17,6 +19,7 @@ mod tally;
 mod times;
 
 pub use comparison::Comparison;
+pub use datagrams::datagram_scripts;
 pub use exhaustive::Exhaustive;
 pub use insertion::make_pair;
 pub use maker::{Script, make_script};

@@ -2,6 +2,7 @@
 
 use oracle::{Answer, Call, Driver, View, ViewSession};
 
+use crate::datagram_moves::Datagrams;
 use crate::insertion::Insertion;
 use crate::profiles::{self, Profile};
 use crate::random::Random;
@@ -26,7 +27,7 @@ pub fn make_script(seed: u64, length: usize) -> Script {
     let mut maker = Maker::new(seed, length);
 
     maker.begin();
-    while maker.lines.len() < length {
+    while !maker.full() {
         maker.go_on();
     }
     maker.end();
@@ -42,6 +43,7 @@ pub(crate) struct Maker {
     lines: Vec<Vec<u8>>,
     length: usize,
     peers: u32,
+    pub(crate) datagrams: Datagrams,
     /// The extra wakings, where a pair of scripts is made.
     pub(crate) insertion: Option<Insertion>,
 }
@@ -59,6 +61,7 @@ impl Maker {
             lines: Vec::with_capacity(length + 32),
             length,
             peers,
+            datagrams: Datagrams::new(seed),
             insertion: None,
         }
     }
@@ -94,17 +97,20 @@ impl Maker {
         self.all_missing();
     }
 
-    /// Whether the script is as long as it should be.
+    /// Whether the script is as long as it should be, its datagrams not counted.
     pub(crate) fn full(&self) -> bool {
-        self.lines.len() >= self.length
+        self.lines.len() - self.datagrams.lines >= self.length
     }
 
-    /// Adds a line and gives the oracle's answer to it, if it is good.
+    /// Adds a line, now and then a datagram behind it, and gives the oracle's answer to the line, if it is good.
     pub(crate) fn ask(&mut self, line: impl Into<Vec<u8>>) -> Option<Answer> {
-        match self.insertion.take() {
-            Some(insertion) => self.ask_both(insertion, &line.into()),
-            None => self.ask_driver(line),
+        if let Some(insertion) = self.insertion.take() {
+            return self.ask_both(insertion, &line.into());
         }
+        let answer = self.ask_driver(line);
+
+        self.datagrams_now_and_then();
+        answer
     }
 
     /// Adds a line as it is.

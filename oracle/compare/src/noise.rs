@@ -1,6 +1,7 @@
 //! Lines that cannot be read, and lines that can though they look odd.
 
 use crate::maker::Maker;
+use crate::random::Random;
 
 /// Lines that stand for themselves.
 const ODD: [&str; 40] = [
@@ -86,58 +87,24 @@ impl Maker {
 
     /// A call with a byte put in, taken out or replaced.
     fn bent_line(&mut self) -> Vec<u8> {
-        let mut line = self.plain_line().into_bytes();
-        let at = self.random.below(line.len() as u64) as usize;
-        let byte = self.random.pick(&BYTES);
+        let line = self.plain_line().into_bytes();
 
-        match self.random.below(3) {
-            0 => line.insert(at, byte),
-            1 => drop(line.remove(at)),
-            _ => line[at] = byte,
-        }
-
-        line
+        bent(&mut self.random, line)
     }
 
-    /// A call with separators around its words, now and then up to the limit of a line or past it.
+    /// A call with separators around its words.
     fn padded_line(&mut self) -> Vec<u8> {
-        let plain = self.plain_line();
-        let mut line = Vec::new();
+        let line = self.plain_line();
 
-        for word in plain.split(' ') {
-            for _ in 0..self.random.between(1, 3) {
-                line.push(self.random.pick(b" \t\r"));
-            }
-            line.extend_from_slice(word.as_bytes());
-        }
-        if self.random.percent(12) {
-            let len = self.random.pick(&[65_535, 65_536, 65_537, 70_000, 140_000]);
-            line.resize(len, b' ');
-        }
-
-        line
+        padded(&mut self.random, line.as_bytes())
     }
 
-    /// A call whose numbers have zeros in front.
+    /// A call whose first number has zeros in front.
     fn line_of_zeros(&mut self) -> Vec<u8> {
-        let zeros = match self.random.below(20) {
-            0 => self.random.pick(&[60_000, 65_000]),
-            _ => self.random.between(1, 40) as usize,
-        };
-        let padding = "0".repeat(zeros);
-        let plain = self.plain_line();
-        let mut words = plain.split(' ');
-        let mut line = words.next().unwrap_or_default().to_string();
+        let padding = zeros(&mut self.random);
+        let line = self.plain_line();
 
-        for (at, word) in words.enumerate() {
-            line.push(' ');
-            if at == 0 {
-                line.push_str(&padding);
-            }
-            line.push_str(word);
-        }
-
-        line.into_bytes()
+        with_zeros(&padding, line.as_bytes())
     }
 
     /// Any bytes but a newline.
@@ -148,5 +115,55 @@ impl Maker {
             .map(|_| self.random.next() as u8)
             .filter(|byte| *byte != b'\n')
             .collect()
+    }
+}
+
+/// A line with a byte put in, taken out or replaced.
+pub(crate) fn bent(random: &mut Random, mut line: Vec<u8>) -> Vec<u8> {
+    let at = random.below(line.len() as u64) as usize;
+    let byte = random.pick(&BYTES);
+
+    match random.below(3) {
+        0 => line.insert(at, byte),
+        1 => drop(line.remove(at)),
+        _ => line[at] = byte,
+    }
+
+    line
+}
+
+/// A line with separators around its words, now and then up to the limit of a line or past it.
+pub(crate) fn padded(random: &mut Random, plain: &[u8]) -> Vec<u8> {
+    let mut line = Vec::new();
+
+    for word in plain.split(|byte| *byte == b' ') {
+        for _ in 0..random.between(1, 3) {
+            line.push(random.pick(b" \t\r"));
+        }
+        line.extend_from_slice(word);
+    }
+    if random.percent(12) {
+        let len = random.pick(&[65_535, 65_536, 65_537, 70_000, 140_000]);
+        line.resize(len, b' ');
+    }
+
+    line
+}
+
+/// Zeros to put in front of a number, now and then nearly as many as a line can have.
+pub(crate) fn zeros(random: &mut Random) -> Vec<u8> {
+    let zeros = match random.below(20) {
+        0 => random.pick(&[60_000, 65_000]),
+        _ => random.between(1, 40) as usize,
+    };
+
+    vec![b'0'; zeros]
+}
+
+/// A line whose second word has zeros in front; one of a single word stays as it is.
+pub(crate) fn with_zeros(zeros: &[u8], line: &[u8]) -> Vec<u8> {
+    match line.iter().position(|byte| *byte == b' ') {
+        Some(at) => [&line[..=at], zeros, &line[at + 1..]].concat(),
+        None => line.to_vec(),
     }
 }

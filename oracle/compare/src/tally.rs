@@ -3,7 +3,7 @@
 use std::collections::BTreeMap;
 use std::fmt;
 
-/// Counts of call words, refusal numbers, events and verdicts.
+/// Counts of call words, refusal numbers, events, verdicts, and of the types read and the headers written.
 #[derive(Default)]
 pub struct Tally {
     calls: u64,
@@ -11,6 +11,7 @@ pub struct Tally {
     refusals: BTreeMap<u64, u64>,
     events: BTreeMap<String, u64>,
     verdicts: BTreeMap<u64, u64>,
+    datagrams: BTreeMap<String, u64>,
 }
 
 impl Tally {
@@ -34,6 +35,14 @@ impl Tally {
                 for verdict in parts.filter_map(|verdict| verdict.parse().ok()) {
                     *self.verdicts.entry(verdict).or_default() += 1;
                 }
+            }
+            (Some("ok"), "datagram") => {
+                let kind = parts.take(2).collect::<Vec<_>>().join(" ");
+                *self.datagrams.entry(kind).or_default() += 1;
+            }
+            (Some("ok"), "header") => {
+                let kind = parts.next().unwrap_or_default().to_string();
+                *self.datagrams.entry(kind).or_default() += 1;
             }
             _ => {}
         }
@@ -61,10 +70,11 @@ fn word_of(line: &[u8]) -> String {
 
 impl fmt::Display for Tally {
     fn fmt(&self, f: &mut fmt::Formatter<'_>) -> fmt::Result {
-        writeln!(f, "calls:    {}", list(&self.words))?;
-        writeln!(f, "refusals: {}", list(&self.refusals))?;
-        writeln!(f, "events:   {}", list(&self.events))?;
-        write!(f, "verdicts: {}", list(&self.verdicts))
+        writeln!(f, "calls:     {}", list(&self.words))?;
+        writeln!(f, "refusals:  {}", list(&self.refusals))?;
+        writeln!(f, "events:    {}", list(&self.events))?;
+        writeln!(f, "verdicts:  {}", list(&self.verdicts))?;
+        write!(f, "datagrams: {}", list(&self.datagrams))
     }
 }
 

@@ -1,8 +1,8 @@
-//! Makes sure that the scripts reach every call, every refusal and every event.
+//! Makes sure that the scripts reach every call, every refusal, every event and every type of datagram.
 
 use std::collections::BTreeSet;
 
-use compare::make_script;
+use compare::{datagram_scripts, make_script};
 use oracle::{Answer, Call, Driver};
 
 /// What a range of seeds has met.
@@ -12,6 +12,7 @@ struct Met {
     refusals: BTreeSet<u8>,
     events: BTreeSet<String>,
     verdicts: BTreeSet<u8>,
+    datagrams: BTreeSet<String>,
     unreadable: usize,
 }
 
@@ -24,7 +25,10 @@ impl Met {
         match (&call, &answer) {
             (None, _) => self.unreadable += 1,
             (_, Err(number)) => drop(self.refusals.insert(*number)),
-            (Some(Call::Event), Ok(event)) => drop(self.events.insert(first_words(event))),
+            (Some(Call::Event), Ok(event)) => drop(self.events.insert(first_words(event, 2))),
+            (Some(Call::Datagram { .. }), Ok(received)) => {
+                self.datagrams.insert(first_words(received, 3));
+            }
             (_, Ok(Answer::Verdicts(verdicts))) => self.verdicts.extend(verdicts),
             _ => {}
         }
@@ -36,11 +40,11 @@ impl Met {
     }
 }
 
-/// The first two words of an answer.
-fn first_words(answer: &Answer) -> String {
+/// The first words of an answer.
+fn first_words(answer: &Answer, count: usize) -> String {
     let text = answer.to_string();
 
-    text.split(' ').take(2).collect::<Vec<_>>().join(" ")
+    text.split(' ').take(count).collect::<Vec<_>>().join(" ")
 }
 
 #[test]
@@ -54,12 +58,37 @@ fn scripts_reach_everything() {
         }
     }
 
-    assert_eq!(met.calls.len(), 14, "{:?}", met.calls);
-    assert_eq!(met.refusals, (1..=13).collect());
+    assert_eq!(met.calls.len(), 16, "{:?}", met.calls);
+    assert_eq!(
+        met.refusals,
+        (1..=16).filter(|number| *number != 14).collect()
+    );
     assert_eq!(met.verdicts, BTreeSet::from([0, 7, 9, 10]));
     let events = ["ok est", "ok exp", "ok init", "ok key", "ok none"];
     assert_eq!(met.events, events.map(str::to_string).into());
+    assert_eq!(met.datagrams, types());
     assert!(met.unreadable > 100);
+}
+
+/// The beginnings of the answers to datagrams that are not turned away.
+fn types() -> BTreeSet<String> {
+    (1..=4).map(|kind| format!("ok type {kind}")).collect()
+}
+
+#[test]
+fn datagram_scripts_reach_every_type_and_refusal() {
+    let mut met = Met::default();
+
+    for (_, script) in datagram_scripts() {
+        let mut driver = Driver::new();
+        for line in script.lines {
+            met.note(&mut driver, &line);
+        }
+    }
+
+    assert_eq!(met.refusals, BTreeSet::from([2, 15, 16]));
+    assert_eq!(met.datagrams, types());
+    assert!(met.unreadable > 1_000);
 }
 
 #[test]

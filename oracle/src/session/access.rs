@@ -88,3 +88,9 @@ pub(crate) fn decrypted_batch(
 pub(crate) fn number_of(index: Index) -> u32 {
     u32::from_le_bytes(index.to_le_bytes())
 }
+
+/// The header of a data message as the Rust makes it.
+#[cfg(test)]
+pub(crate) fn header(receiver: u32, counter: u64) -> [u8; DATA_HEADER_SZ] {
+    data_header(receiver.to_le_bytes(), counter)
+}

@@ -1,16 +1,17 @@
 //! Runs two programs on the same scripts and compares their answers line by line:
-//! compare A B [--seeds FROM..TO] [--exhaustive N] [--lines M] [--stop] [--no-cut]
+//! compare A B [--seeds FROM..TO] [--exhaustive N] [--datagrams] [--lines M] [--stop] [--no-cut]
 
 use std::env;
 use std::process::ExitCode;
 
-use compare::{Comparison, Exhaustive, Script, make_script, profile_name};
+use compare::{Comparison, Exhaustive, Script, datagram_scripts, make_script, profile_name};
 
 /// What to compare.
 struct Options {
     programs: [String; 2],
     seeds: (u64, u64),
     exhaustive: u32,
+    datagrams: bool,
     lines: usize,
     stop: bool,
     cut: bool,
@@ -19,21 +20,21 @@ struct Options {
 fn main() -> ExitCode {
     let Some(options) = options() else {
         eprintln!(
-            "usage: compare A B [--seeds FROM..TO] [--exhaustive N] [--lines M] [--stop] [--no-cut]"
+            "usage: compare A B [--seeds FROM..TO] [--exhaustive N] [--datagrams] [--lines M] [--stop] [--no-cut]"
         );
         return ExitCode::from(2);
     };
 
     let (from, to) = options.seeds;
-    let scripts = (from..to).map(|seed| of_seed(seed, options.lines)).chain(
-        Exhaustive::new(options.exhaustive)
-            .enumerate()
-            .map(|(at, script)| (format!("word {at}"), script)),
-    );
+    let seeds = (from..to).map(|seed| of_seed(seed, options.lines));
+    let words = Exhaustive::new(options.exhaustive)
+        .enumerate()
+        .map(|(at, script)| (format!("word {at}"), script));
+    let datagrams = options.datagrams.then(datagram_scripts).unwrap_or_default();
     let [a, b] = &options.programs;
     let mut comparison = Comparison::new([a, b], options.stop, options.cut);
 
-    comparison.go_through(scripts);
+    comparison.go_through(seeds.chain(words).chain(datagrams));
     comparison.report();
 
     ExitCode::from(u8::from(comparison.differences() > 0))
@@ -53,6 +54,7 @@ fn options() -> Option<Options> {
         programs: [arguments.next()?, arguments.next()?],
         seeds: (0, 0),
         exhaustive: 0,
+        datagrams: false,
         lines: 150,
         stop: false,
         cut: true,
@@ -69,6 +71,10 @@ fn options() -> Option<Options> {
             }
             "--exhaustive" => {
                 options.exhaustive = arguments.next()?.parse().ok()?;
+                chosen = true;
+            }
+            "--datagrams" => {
+                options.datagrams = true;
                 chosen = true;
             }
             "--lines" => options.lines = arguments.next()?.parse().ok()?,

@@ -1,30 +1,40 @@
-//! Writes the script of a seed: gen SEED [LINES]
+//! Writes the script of a seed, or all datagram scripts one after another: gen SEED [LINES] | gen --datagrams
 
 use std::env;
 use std::io::{self, BufWriter, Write};
 use std::process;
 
-use compare::make_script;
+use compare::{datagram_scripts, make_script};
 
 /// The length of a script where none is given.
 const LINES: usize = 150;
 
 fn main() -> io::Result<()> {
-    let mut arguments = env::args().skip(1);
-    let seed = arguments.next().and_then(|seed| seed.parse().ok());
-    let lines = arguments
-        .next()
-        .map_or(Some(LINES), |lines| lines.parse().ok());
-    let (Some(seed), Some(lines), None) = (seed, lines, arguments.next()) else {
-        eprintln!("usage: gen SEED [LINES]");
+    let arguments: Vec<String> = env::args().skip(1).collect();
+    let Some(lines) = lines(&arguments) else {
+        eprintln!("usage: gen SEED [LINES] | gen --datagrams");
         process::exit(2);
     };
 
     let mut output = BufWriter::new(io::stdout().lock());
-    for line in make_script(seed, lines).lines {
+    for line in lines {
         output.write_all(&line)?;
         output.write_all(b"\n")?;
     }
 
     output.flush()
+}
+
+/// The lines that are asked for, or nothing where the arguments are not as they should be.
+fn lines(arguments: &[String]) -> Option<Vec<Vec<u8>>> {
+    match arguments {
+        [name] if name == "--datagrams" => {
+            let scripts = datagram_scripts().into_iter();
+
+            Some(scripts.flat_map(|(_, script)| script.lines).collect())
+        }
+        [seed] => Some(make_script(seed.parse().ok()?, LINES).lines),
+        [seed, lines] => Some(make_script(seed.parse().ok()?, lines.parse().ok()?).lines),
+        _ => None,
+    }
 }
