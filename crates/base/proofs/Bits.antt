@@ -1,4 +1,4 @@
--- Laws of single bits: of a bitwise or, of a bitwise and with a mask that lacks one bit, and that a word is known by its bits.
+-- Laws of single bits: of a bitwise or, of a bitwise and with a mask that lacks one bit or has the first ones only, and that a word is known by its bits.
 -- Assumes nothing.
 use mathlib.Core.Path.{_≡_, refl, ap, sym, _∙_}
 use Prim.Native.Nat.{ℕ, zero, suc, _+_, _-_, _/_, _%_, _^_, _<_, min, max}
@@ -27,7 +27,7 @@ unfolding bit
 bit-and a b place =
     rw and-shr (omega (arith, and-step (a / 2 ^ place) (b / 2 ^ place)))
 
-bit-small : (n place : ℕ) → bit n place < 2
+pub bit-small : (n place : ℕ) → bit n place < 2
 unfolding bit
 bit-small n place = omega arith
 
@@ -81,3 +81,14 @@ module _ (width w b : ℕ) (h : b < width) where
   pub bit-clear-other : (place : ℕ) → place < width → (b ≡ place → ⊥) → bit (bitAnd w (2 ^ width - 1 - 2 ^ b)) place ≡ bit w place
   bit-clear-other place l d =
       omega (arith, bit-and w (2 ^ width - 1 - 2 ^ b) place, complement width (2 ^ b) (2 ^ width - 1 - 2 ^ b) place mask-sum l, bit-pow-other b place d, bit-small w place)
+
+-- the first bits of a word, the others cleared
+pub bit-masked : (w count place : ℕ) → place < count → bit (bitAnd w (2 ^ count - 1)) place ≡ bit w place
+bit-masked w count place h =
+    omega (
+      arith,
+      bit-and w (2 ^ count - 1) place,
+      complement count (2 ^ count - 1) 0 place (omega (arith, pow-pos count)) h,
+      bit-zero place,
+      bit-small w place,
+    )

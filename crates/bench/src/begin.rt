@@ -93,7 +93,7 @@ fn filled(store: &mut [u64]) -> Tunnel {
 pub fn begun(case: u8, store: &mut [u64]) -> Tunnel {
     match case {
         b's' => established(store, 0),
-        b'r' | b'm' => established(store, 25),
+        b'r' | b'm' | b'q' => established(store, 25),
         b'k' => established(store, 1),
         b'f' => filled(store),
         b'h' => started(store, 0),

@@ -7,7 +7,6 @@ mod datagrams;
 mod day;
 mod turns;
 
-use crate::begin::INDEX;
 use crate::begin::begun;
 use crate::begin::weight;
 use crate::counters::fill;
@@ -17,6 +16,7 @@ use crate::turns::deadlines;
 use crate::turns::events;
 use crate::turns::looks;
 use crate::turns::receives;
+use crate::turns::reports;
 use crate::turns::sends;
 use crate::turns::wakes;
 use libc::STDIN_FILENO;
@@ -59,6 +59,22 @@ fn length_of(letter: u8) -> usize {
     }
 }
 
+// How many batches there are: nine before the missing reports, and otherwise one in each turn.
+fn batches_of(asked: Asked) -> usize {
+    if asked.case == b'q' {
+        return 9;
+    }
+    asked.turns
+}
+
+// How many missing reports there are at the end: one in each turn, and otherwise one.
+fn reports_of(asked: Asked) -> usize {
+    if asked.case == b'q' {
+        return asked.turns;
+    }
+    1
+}
+
 // The cases with a list.
 fn listed(
     tunnel: Tunnel,
@@ -71,7 +87,7 @@ fn listed(
     if asked.case == b'm' {
         return rounds(tunnel, store, counters, kinds, verdicts, asked.turns);
     }
-    receives(tunnel, store, counters, kinds, verdicts, asked.turns)
+    receives(tunnel, store, counters, kinds, verdicts, batches_of(asked))
 }
 
 // The cases with a list, over so much of the kinds and the verdicts as a batch has.
@@ -121,7 +137,7 @@ fn run(
     let case = asked.case;
     match case {
         b's' => sends(tunnel, asked.turns),
-        b'r' | b'm' => cut(tunnel, store, counters, kinds, verdicts, asked),
+        b'r' | b'm' | b'q' => cut(tunnel, store, counters, kinds, verdicts, asked),
         b'k' | b'h' | b'i' => wakes(tunnel, store, step_of(case), asked.turns),
         b'l' => looks(tunnel, store, asked.turns),
         b'd' | b'f' => deadlines(tunnel, asked.turns),
@@ -152,9 +168,9 @@ fn print(answered: Answered) {
     io::write_all(STDOUT_FILENO, b" ");
 }
 
-// Writes the missing report, the deadline, the counter of a send and the verdicts' sum.
-fn report(tunnel: Tunnel, store: &[u64], verdicts: &[u8]) {
-    print(tunnel.missing(store, INDEX));
+// Writes the last of the missing reports, the deadline, the counter of a send and the verdicts' sum.
+fn report(tunnel: Tunnel, store: &[u64], verdicts: &[u8], turns: usize) {
+    print(reports(tunnel, store, turns));
     print(tunnel.poll_timeout());
     print(tunnel.send(1, tunnel.greatest));
     io::print_decimal(STDOUT_FILENO, sum(verdicts));
@@ -187,7 +203,7 @@ fn tunnel_case(asked: Asked) {
         &kinds,
         &mut verdicts,
     );
-    report(tunnel, &store, &verdicts);
+    report(tunnel, &store, &verdicts, reports_of(asked));
 }
 
 fn main() {

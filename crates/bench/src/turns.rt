@@ -1,6 +1,8 @@
 // One call over and over. A call that leaves the tunnel as it is finds its greatest time raised at each turn.
 use crate::begin::INDEX;
 use crate::begin::weight;
+use tunnel::answer::Answer;
+use tunnel::tunnel::Answered;
 use tunnel::tunnel::Tunnel;
 
 // Sends of one message.
@@ -57,6 +59,22 @@ pub fn looks(mut tunnel: Tunnel, store: &[u64], turns: usize) -> Tunnel {
     }
     tunnel.greatest = std::num::wrapping_add_u64(tunnel.greatest, sum % 2);
     tunnel
+}
+
+// Missing reports: what the last one answers.
+pub fn reports(tunnel: Tunnel, store: &[u64], turns: usize) -> Answered {
+    let mut last = Answered {
+        tunnel,
+        answer: Answer::Done,
+    };
+    let mut i = 0;
+    while i < turns {
+        let mut tunnel = last.tunnel;
+        tunnel.greatest = std::num::wrapping_add_u64(tunnel.greatest, 1);
+        last = tunnel.missing(store, INDEX);
+        i = i + 1;
+    }
+    last
 }
 
 // Wakings at times that are a step apart.

@@ -100,5 +100,7 @@ example-law =
       sent = refl;
       late = refl;
       cannotSend = sending-law example.creation refl example.calls few .twelve 2 170001000001 refl;
-      report = refl;
+      fresh = refl;
+      young = refl;
+      old = refl;
     }

@@ -3,7 +3,7 @@
 use mathlib.Core.Path.{_≡_, refl, ap, sym, _∙_}
 use mathlib.Core.Bool.{Bool, true, false, _||_}
 use mathlib.Core.List.{List, [], _∷_}
-use Prim.Native.Nat.{ℕ, _+_, _-_, _%_, _≤_, _<_}
+use Prim.Native.Nat.{ℕ, _+_, _%_, _≤_, _<_}
 use native.Mathlib.Omega.{arith}
 use lib.Dec.{eqb}
 use lib.ListN.{length, getD, set}
@@ -17,12 +17,12 @@ use Rattle.sessions.specs.declared.batch.Progress.{Progress}
 use Rattle.sessions.specs.declared.session.Session.{Session}
 use Rattle.sessions.specs.declared.sessions.Sessions.{Sessions}
 use Rattle.sessions.specs.Index.{slotOf}
-use Rattle.sessions.specs.Store.{slotWords, putSlot, missingOf}
+use Rattle.sessions.specs.Store.{slotWords, putSlot}
 use Rattle.base.specs.Lists.{zeros}
 use Rattle.sessions.specs.Session.{emptySession, withId, withReceivedData, withNext}
 use Rattle.sessions.specs.Cases.{caseFound}
 use Rattle.sessions.specs.Sessions.{slotAt, put, inserting, insert}
-use Rattle.demands.specs.History.{verdictOn, recorded, recordedAll, verdictsOn, Stands, VerdictLaw, BatchLaw, InsertedLaw, CountLaw, BatchCall, BatchFor}
+use Rattle.demands.specs.History.{verdictOn, recorded, recordedAll, verdictsOn, Stands, VerdictLaw, BatchLaw, InsertedLaw, BatchCall, BatchFor}
 use Rattle.sessions.proofs.Laws.{lookup-law, slot-law}
 use Rattle.sessions.specs.Laws.{InSlot}
 use Rattle.sessions.specs.Batch.{Batched, fits, receivingSession, finishReceivePacketData, finishAll, receive}
@@ -181,8 +181,3 @@ inserted-law s store x n l z =
       stands = rw (eq-eqb (length store) 1024 l)
           (put-stands [] s (inserting s x) store (zeros 128) (x .«receiving_index» % 8) (withId x (s .inserted)) n l (omega arith) refl (rw z fresh-law));
     }
-
--- the missing count
-pub count-law : (history words : List ℕ) (next : ℕ) → Represents history words next → CountLaw history words
-unfolding missingOf
-count-law history words next r = record { counts = ap (λ (n : ℕ). 8192 - n) (standing-law history words next r .counts) }

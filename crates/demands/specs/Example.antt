@@ -4,6 +4,7 @@ use mathlib.Core.Path.{_≡_}
 use mathlib.Core.Bool.{true}
 use mathlib.Core.List.{List, [], _∷_, _++_}
 use Prim.Native.Nat.{_^_, _<_}
+use lib.ListN.{take}
 use Rattle.tunnel.specs.declared.answer.Answer.the-variants.{Polled}
 use Rattle.demands.specs.Calls.Call.{start, send, receive, response, timeout, event, missing}
 use Rattle.demands.specs.Calls.{Call, World, step, after, Creation, created, Good}
@@ -70,4 +71,7 @@ pub record ExampleLaw : Type 0 where
   pub sent : valuesOf (sendAfter creation calls 2 12000000000) ≡ 9 ∷ 5 ∷ 2 ∷ []
   pub cannotSend : CanSend creation calls 2 170001000001 → ⊥
   pub late : numberOf (sendAfter creation calls 2 170001000001) ≡ 12
-  pub report : valuesOf (step here (missing 257) .answer) ≡ 8191 ∷ []
+  -- none is missing from the fresh session, four from the young one, and in the end all of the window's counters but the last
+  pub fresh : valuesOf (step (after (created creation) (take 2 calls)) (missing 257) .answer) ≡ 0 ∷ []
+  pub young : valuesOf (step (after (created creation) (take 4 calls)) (missing 257) .answer) ≡ 4 ∷ []
+  pub old : valuesOf (step here (missing 257) .answer) ≡ 8191 ∷ []

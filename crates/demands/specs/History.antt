@@ -2,10 +2,11 @@
 use mathlib.Core.Path.{_≡_}
 use mathlib.Core.Bool.{true, false}
 use mathlib.Core.List.{List, [], _∷_}
-use Prim.Native.Nat.{ℕ, _+_, _-_, _^_, _≤_, _<_}
+use Prim.Native.Nat.{ℕ, _+_, _-_, _^_, _≤_, _<_, min}
 use lib.Dec.{eqb}
 use lib.ListN.{length}
 use Rattle.base.specs.Choice.{choose}
+use Rattle.base.specs.Sums.{sum}
 use Rattle.window.specs.History.{member, expected, judged, amongLast, Represents}
 use Rattle.sessions.specs.declared.session.Session.{Session}
 use Rattle.sessions.specs.declared.sessions.Found.the-variants.{Got}
@@ -85,6 +86,12 @@ pub record BatchLaw (c : BatchCall) (history : List ℕ) : Type 0 where
 pub record InsertedLaw (s : Sessions) (store : List ℕ) (session : Session) : Type 0 where
   pub stands : Stands [] (insert s store session .sessions) (insert s store session .store) (slotOf (session .«receiving_index»))
 
--- The missing count of a slot that stands for a history is 8,192 less the history's counters among the last 8,192.
-pub record CountLaw (history words : List ℕ) : Type 0 where
-  pub counts : missingOf words ≡ 8192 - amongLast history
+-- how many of the last 8,192 counters below the next expected one, or of all where there are fewer, are not in the history
+unfoldable pub uncommitted : List ℕ → ℕ
+uncommitted history = sum (λ k. choose (member (expected history - 8192 + k) history) 0 1) (min (expected history) 8192)
+
+-- The missing count of a slot that stands for a history is the number of the window's counters that are not in the history; those and the ones that are
+-- make up the window's length.
+pub record CountLaw (history words : List ℕ) (next : ℕ) : Type 0 where
+  pub counts : missingOf words next ≡ uncommitted history
+  pub together : missingOf words next + amongLast history ≡ min next 8192

@@ -13,7 +13,7 @@ ghost use Rattle.demands.specs.Example.{ExampleLaw};
 ghost use Rattle.demands.specs.Grown.{Grown};
 ghost use Rattle.demands.specs.History.{VerdictLaw, BatchCall, BatchFor, BatchLaw, InsertedLaw, CountLaw};
 ghost use Rattle.demands.specs.Marked.{holdAll, marked};
-ghost use Rattle.demands.specs.Missing.{MissingReport};
+ghost use Rattle.demands.specs.Missing.{MissingReport, NoReport};
 ghost use Rattle.demands.specs.Receiving.{Receiving, OnlyLive};
 ghost use Rattle.demands.specs.Sending.{Sending};
 ghost use Rattle.demands.specs.Wakings.{ExtraWakingsLaw};
@@ -59,9 +59,9 @@ pub fn inserted_law()
     ensures { λ r. ⌜ ((s : Sessions) (store : List ℕ) (session : Session) → length (s .slots) ≡ 8 → length store ≡ 1024 → session .next ≡ 0 → InsertedLaw s store session) ⌝ }
 {}
 
-// The missing count of a window that stands for a history is 8,192 less the history's counters among the last 8,192.
+// The missing count of a window that stands for a history is the number of its counters that are not in the history.
 pub fn count_law()
-    ensures { λ r. ⌜ ((history words : List ℕ) (next : ℕ) → Represents history words next → CountLaw history words) ⌝ }
+    ensures { λ r. ⌜ ((history words : List ℕ) (next : ℕ) → Represents history words next → CountLaw history words next) ⌝ }
 {}
 
 // Demand 2, sending: the counters that a session grants.
@@ -72,6 +72,11 @@ pub fn sending_law()
 // Demand 2, the missing report: a recount of the commits.
 pub fn missing_law()
     ensures { λ r. ⌜ MissingReport ⌝ }
+{}
+
+// And an index that no filled slot holds has no report.
+pub fn no_report_law()
+    ensures { λ r. ⌜ NoReport ⌝ }
 {}
 
 // There are calls of which demand 2's statements speak: a live session, a commit, a replay, a jump that clears the window, a keepalive.

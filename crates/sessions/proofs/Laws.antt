@@ -6,12 +6,20 @@ use Prim.Native.Nat.{ℕ, _+_, _≤_, _<_}
 use native.Mathlib.Omega.{arith}
 use lib.ListN.{length, getD}
 use Rattle.base.proofs.Counting.{upFrom-at}
-use Rattle.window.specs.Window.{limit}
+use Rattle.base.specs.Bits.{bit}
+use Rattle.base.specs.Choice.{choose}
+use Rattle.base.specs.Lists.{zeros}
+use Rattle.base.specs.Sums.{sum}
+use Rattle.window.specs.Window.{limit, bitAt, checkBit}
 use Rattle.sessions.specs.Batch.{receivingSession}
-use Rattle.sessions.specs.Laws.{SlotsApart, NextIndexLaw, EmptyLaw, LookupLaw, SlotLaw, WholeLaw, ExpiryLaw, FitsLaw, LookLaw, NextLaw, RejectedLaw, EmptyBatchLaw, ReserveLaw, SplitLaw}
+use Rattle.sessions.specs.Laws.{SlotsApart, NextIndexLaw, EmptyLaw, LookupLaw, SlotLaw, WholeLaw, ExpiryLaw, FitsLaw, LookLaw, NextLaw, RejectedLaw, EmptyBatchLaw, ReserveLaw, SplitLaw, InSlot, MissingLaw, NoReportLaw, MissingExample, expects70, with70, store70}
 use Rattle.sessions.specs.declared.batch.Progress.{Progress}
 use Rattle.sessions.specs.Reservations.{granted, ReservationLaw}
-use Rattle.sessions.specs.Sessions.{inCurrentSlot}
+use Rattle.sessions.specs.Index.{slotOf}
+use Rattle.sessions.specs.Cases.{caseFound}
+use Rattle.sessions.specs.Sessions.{inCurrentSlot, newSessions, emptySlots, put, inSlotOf, get, missing}
+use Rattle.sessions.specs.Store.{slotWords, missingOf}
+use Rattle.sessions.specs.declared.sessions.Missing.the-variants.{Count}
 use Rattle.sessions.specs.declared.session.Session.{Session}
 use Rattle.sessions.specs.declared.sessions.Sessions.{Sessions}
 use Rattle.sessions.proofs.Apart.{kept-insert, kept-expire}
@@ -20,6 +28,7 @@ use Rattle.sessions.proofs.Lookups.{got-slot, current-slot, received-sl
 use Rattle.sessions.proofs.Looks.{look-numbers}
 use Rattle.sessions.proofs.Loops.{expire-none}
 use Rattle.sessions.proofs.Received.{batch-within, kept-receive}
+use Rattle.sessions.proofs.Missing.{missing-rest, missing-own, missing-found, missing-none}
 use Rattle.sessions.proofs.Reservations.{Counts, counts-all}
 use Rattle.sessions.proofs.Wholes.{insert-whole, clear-whole, expire-whole, receive-whole}
 use Rattle.sessions.proofs.Words.{length-put, slot-same, slot-other}
@@ -27,7 +36,7 @@ use Rattle.sessions.proofs.Turned.{fits-batch, batch-fits, rejected, em
 use Rattle.sessions.proofs.Usable.{sending-may, may-sending, in-received, reserve-grants, reserve-refuses, cut-empty, cut-nowhere, cut-beyond, cut-good, cut-whole, cut-parts}
 use Rattle.sessions.specs.declared.range.Range.{Range}
 use lib.Dec.{eqb}
-use Rattle.sessions.specs.Session.{emptySession}
+use Rattle.sessions.specs.Session.{newSession, emptySession}
 use mathlib.Core.Bool.{true≢false}
 
 -- the counters that a session grants
@@ -135,3 +144,23 @@ split-law r at =
 -- the window's next after the messages of a batch
 pub next-law : (words : List ℕ) (p : Progress) (counters kinds : List ℕ) → NextLaw words p counters kinds
 next-law words p counters kinds = record { within = batch-within words p counters kinds }
+
+-- the missing report
+pub missing-law : (s : Sessions) (store : List ℕ) (index : ℕ) (x : Session) → InSlot s index x → length store ≡ 1024 → MissingLaw s store index x
+missing-law s store index x i l =
+    record {
+      count = missingOf (slotWords store (slotOf index)) (x .next);
+      answered = missing-found s index x i store l;
+      together = missing-rest (slotWords store (slotOf index)) (x .next);
+      fresh = λ z. omega (arith, missing-rest (slotWords store (slotOf index)) (x .next));
+      own = λ other m same.
+          missing-found s index x i other m ∙ ap Count (missing-own (slotWords store (slotOf index)) (slotWords other (slotOf index)) (x .next) same)
+          ∙ sym (missing-found s index x i store l);
+    }
+
+pub no-report-law : (s : Sessions) (store : List ℕ) (index : ℕ) → ((x : Session) → InSlot s index x → ⊥) → length store ≡ 1024 → NoReportLaw s store index
+no-report-law s store index none l = record { number = missing-none s store index none l }
+
+pub missing-example : MissingExample
+unfolding with70 store70 expects70 newSession emptySession newSessions emptySlots put zeros inSlotOf get missing missingOf slotWords checkBit bitAt bit sum caseFound choose
+missing-example = record { held = record { stored = refl; filled = refl; named = refl }; size = refl; report = refl }

@@ -5,6 +5,7 @@ pub mod Laws
 pub mod Lookups
 pub mod Looks
 pub mod Loops
+pub mod Missing
 pub mod Ones
 pub mod Received
 pub mod Reservations

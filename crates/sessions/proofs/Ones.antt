@@ -2,7 +2,7 @@
 -- Assumes nothing.
 use mathlib.Core.Path.{_≡_, ap, sym, _∙_}
 use mathlib.Core.List.{List}
-use Prim.Native.Nat.{ℕ, _+_, _-_, _*_, _^_, _≤_, _<_}
+use Prim.Native.Nat.{ℕ, _+_, _*_, _^_, _≤_, _<_}
 use native.Mathlib.Nat.{add-assoc, add-zero, zero-add}
 use native.Mathlib.Numerals.{add-one}
 use native.Mathlib.Omega.{arith}
@@ -10,7 +10,7 @@ use lib.Count.{ones, ones-le}
 use lib.ListN.{length, getD, drop, drop-of-length-le}
 use lib.Seq.{drop-cons}
 use Rattle.base.specs.Lists.{onesOf}
-use Rattle.sessions.specs.Store.{Counted, missingOf}
+use Rattle.sessions.specs.Store.{Counted}
 
 -- a sum of ones under way
 pub record Ones (words : List ℕ) (i sum : ℕ) : Type 0 where
@@ -46,7 +46,3 @@ ones-few w h = ones-le 64 w h
 
 pub ones-fits : (w : ℕ) → w < 2 ^ 64 → ones w < 2 ^ 64
 ones-fits w h = omega (arith, ones-le 64 w h)
-
-pub missing-is : (words : List ℕ) (n : ℕ) → Counted words n → 8192 - n ≡ missingOf words
-unfolding missingOf
-missing-is words n e = ap (λ (x : ℕ). 8192 - x) (e .out)

@@ -82,7 +82,7 @@ module _ (s : Sessions) where
   may-sending now x c m = rw c (may-picked x now m)
 
   -- the session for a batch
-  in-got : (index : ℕ) (x : Session) → InSlot s index x → get s index ≡ Got x
+  pub in-got : (index : ℕ) (x : Session) → InSlot s index x → get s index ≡ Got x
   unfolding get inSlotOf caseFound choose
   in-got index x i = rw (i .stored, i .filled, eq-eqb (x .«receiving_index») index (i .named)) refl
 

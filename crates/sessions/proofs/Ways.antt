@@ -99,11 +99,11 @@ module _ (s : Sessions) where
       not-found index found e p = rw (eq-eqb (length store) 1024 l, ← e, p)
 
       pub reported : (index : ℕ) (found : Found) (x : Session) (start end n : ℕ) → found ≡ get s index → found ≡ Got x
-          → n ≡ missingOf (take (end - start) (drop start store)) → start ≡ 128 * (x .«receiving_index» % 8) → end ≡ start + 128
+          → n ≡ missingOf (take (end - start) (drop start store)) (x .next) → start ≡ 128 * (x .«receiving_index» % 8) → end ≡ start + 128
           → Count n ≡ missing s store index
       unfolding missing caseFound choose
       reported index found x start end n e p m b f =
-          rw (eq-eqb (length store) 1024 l, ← e, p) (ap Count (m ∙ ap missingOf (part-is store (x .«receiving_index» % 8) start end b f)))
+          rw (eq-eqb (length store) 1024 l, ← e, p) (ap Count (m ∙ ap (λ (words : List ℕ). missingOf words (x .next)) (part-is store (x .«receiving_index» % 8) start end b f)))
 
 -- a session discarded from a slot
 module _ (e : Expired) (slot : ℕ) (f : Bool) (rest : Sessions) (p : rest ≡ emptied (e .sessions) slot)

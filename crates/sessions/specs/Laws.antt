@@ -1,23 +1,26 @@
 -- What follows from the definitions: what the lookups find, which slots a call touches, how many words it leaves, which index is allocated, which
--- lists make a batch, what a batch leaves that is turned down or empty, which numbers an early look gives, which counters are left, and how a
--- range is cut.
+-- lists make a batch, what a batch leaves that is turned down or empty, which numbers an early look gives, which counters a missing report counts,
+-- which are left to grant, and how a range is cut.
 use mathlib.Core.Path.{_≡_}
 use mathlib.Core.Bool.{true, false}
-use mathlib.Core.List.{List, [], _∷_}
+use mathlib.Core.List.{List, [], _∷_, _++_}
 use mathlib.Core.Logic.{_⊎_}
 use lib.ListN.{length, getD}
-use Prim.Native.Nat.{ℕ, _+_, _-_, _/_, _^_, _≤_, _<_}
+use Prim.Native.Nat.{ℕ, _+_, _-_, _/_, _^_, _≤_, _<_, min}
+use Rattle.base.specs.Lists.{zeros}
+use Rattle.base.specs.Sums.{sum}
 use Rattle.sessions.specs.declared.session.Session.{Session}
 use Rattle.sessions.specs.declared.sessions.Found.the-variants.{Nothing, Got}
+use Rattle.sessions.specs.declared.sessions.Missing.the-variants.{Refused, Count}
 use Rattle.sessions.specs.declared.sessions.Sessions.{Sessions}
 use Rattle.sessions.specs.Index.{slotOf, wrappingIncrement}
 use Rattle.sessions.specs.Store.{slotWords, putSlot}
-use Rattle.sessions.specs.Sessions.{slotAt, get, currentOf, sendingSession, inCurrentSlot, nextIndex, insert, clear, expiredSlot, noneExpired, expiring, expire, put}
+use Rattle.sessions.specs.Sessions.{slotAt, get, currentOf, sendingSession, inCurrentSlot, nextIndex, insert, clear, expiredSlot, noneExpired, expiring, expire, put, newSessions, missing}
 use Rattle.sessions.specs.Batch.{fits, finishAll, receivingSession, receive}
-use Rattle.window.specs.Window.{limit}
+use Rattle.window.specs.Window.{limit, bitAt}
 use Rattle.sessions.specs.declared.batch.Progress.{Progress}
 use Rattle.sessions.specs.Range.{splitOff, splitNumber, splitValues}
-use Rattle.sessions.specs.Session.{emptySession, withCounter, reserveCounters, willReceive}
+use Rattle.sessions.specs.Session.{newSession, emptySession, withNext, withCounter, reserveCounters, willReceive}
 use Rattle.sessions.specs.declared.batch.Received.the-variants.{Rejected, Judged}
 use Rattle.sessions.specs.declared.range.Range.{Range}
 use Rattle.sessions.specs.declared.session.Reserved.the-variants.{TooFew, First}
@@ -158,3 +161,40 @@ pub record SplitLaw (r : Range) (at : ℕ) : Type 0 where
   -- below it the counters before the cut, and those from it on, both for the same peer
   pub parts : splitNumber (splitOff r at) ≡ 0 → at < r .len
       → splitValues (splitOff r at) ≡ r .peer ∷ r .first ∷ at ∷ r .peer ∷ (r .first + at) ∷ (r .len - at) ∷ []
+
+-- The missing report of a session in its slot, over a store of 1,024 words:
+pub record MissingLaw (s : Sessions) (store : List ℕ) (index : ℕ) (x : Session) : Type 0 where
+  -- it is a count
+  pub count : ℕ
+  pub answered : missing s store index ≡ Count count
+  -- with the counters that are committed it makes up the window: the last 8,192 below the next expected one, or all where there are fewer
+  pub together : count + sum (λ k. bitAt (slotWords store (slotOf index)) (x .next - 8192 + k)) (min (x .next) 8192) ≡ min (x .next) 8192
+  -- a session that committed nothing has none missing, whatever its words are
+  pub fresh : x .next ≡ 0 → count ≡ 0
+  -- only the bits of the window's own counters are looked at
+  pub own : (other : List ℕ) → length other ≡ 1024
+      → ((counter : ℕ) → counter < x .next → x .next ≤ counter + 8192
+      → bitAt (slotWords other (slotOf index)) counter ≡ bitAt (slotWords store (slotOf index)) counter)
+      → missing s other index ≡ missing s store index
+
+-- The missing report of an index that no filled slot holds is turned down by 12.
+pub record NoReportLaw (s : Sessions) (store : List ℕ) (index : ℕ) : Type 0 where
+  pub number : missing s store index ≡ Refused 12
+
+-- a session in slot 1 that expects counter 70 next
+unfoldable pub expects70 : Session
+expects70 = withNext (newSession 1 9 Initiator 0) 70
+
+-- the sessions with this one only
+unfoldable pub with70 : Sessions
+with70 = put (newSessions 0) expects70
+
+-- a store with only the bits of that slot's counters 64 to 127 set
+unfoldable pub store70 : List ℕ
+store70 = zeros 129 ++ 18446744073709551615 ∷ zeros 894
+
+-- The premises hold, and of its window's 70 counters 64 are missing: the bits of 70 to 127 do not count.
+pub record MissingExample : Type 0 where
+  pub held : InSlot with70 1 expects70
+  pub size : length store70 ≡ 1024
+  pub report : missing with70 store70 1 ≡ Count 64

@@ -208,5 +208,5 @@ nextExpiry s = firstExpiry s 8
 unfoldable pub missing : Sessions → List ℕ → ℕ → Missing
 missing s store index =
     choose (whole store)
-    (caseFound (get s index) (Refused 12) (λ session. Count (missingOf (slotWords store (slotOf (session .«receiving_index»))))))
+    (caseFound (get s index) (Refused 12) (λ session. Count (missingOf (slotWords store (slotOf (session .«receiving_index»))) (session .next))))
     (Refused 2)

@@ -2,10 +2,13 @@
 use mathlib.Core.Path.{_≡_}
 use mathlib.Core.Bool.{Bool}
 use mathlib.Core.List.{List, _++_}
-use Prim.Native.Nat.{ℕ, _+_, _-_, _*_, _≤_}
+use Prim.Native.Nat.{ℕ, _+_, _-_, _*_, _≤_, min}
 use lib.Dec.{eqb}
 use lib.ListN.{length, take, drop}
+use Rattle.base.specs.Choice.{choose}
 use Rattle.base.specs.Lists.{onesOf}
+use Rattle.base.specs.Sums.{sum}
+use Rattle.window.specs.Window.{checkBit}
 
 -- whether a store is of 1,024 words
 abbrev pub whole : List ℕ → Bool
@@ -24,9 +27,9 @@ pub record Counted (words : List ℕ) (n : ℕ) : Type 0 where
   pub out : n ≡ onesOf words
   pub most : n ≤ 8192
 
--- the missing count of a window: its 8,192 counters less those that its words have committed
-unfoldable pub missingOf : List ℕ → ℕ
-missingOf words = 8192 - onesOf words
+-- the missing count of a window: how many of the last 8,192 counters below `next`, or of all where there are fewer, do not have their bit set
+unfoldable pub missingOf : List ℕ → ℕ → ℕ
+missingOf words next = sum (λ k. choose (checkBit words (next - 8192 + k)) 0 1) (min next 8192)
 
 -- what a call answers and the words that it leaves are what they shall be
 pub record Leaves {A : Type 0} (answer shall : A) (left should : List ℕ) : Type 0 where

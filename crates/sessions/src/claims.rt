@@ -7,7 +7,7 @@ ghost use Rattle.sessions.specs.Reservations.{ReservationLaw};
 ghost use lib.ListN.{length};
 ghost use Rattle.sessions.specs.declared.batch.Progress.{Progress};
 ghost use Rattle.sessions.specs.declared.sessions.Sessions.{Sessions};
-ghost use Rattle.sessions.specs.Laws.{SlotsApart, NextIndexLaw, EmptyLaw, LookupLaw, SlotLaw, WholeLaw, ExpiryLaw, FitsLaw, LookLaw, NextLaw, RejectedLaw, EmptyBatchLaw, ReserveLaw, SplitLaw};
+ghost use Rattle.sessions.specs.Laws.{SlotsApart, NextIndexLaw, EmptyLaw, LookupLaw, SlotLaw, WholeLaw, ExpiryLaw, FitsLaw, LookLaw, NextLaw, RejectedLaw, EmptyBatchLaw, ReserveLaw, SplitLaw, InSlot, MissingLaw, NoReportLaw, MissingExample};
 ghost use Rattle.sessions.specs.declared.range.Range.{Range};
 
 // The counters that a session grants to any list of reservations are 0, 1, 2 on, all below the limit.
@@ -83,4 +83,19 @@ pub fn reserve_law()
 // What a cut of a range answers, in numbers and values.
 pub fn split_law()
     ensures { λ r. ⌜ ((range : Range) (at : ℕ) → SplitLaw range at) ⌝ }
+{}
+
+// A missing report and the committed counters make up the session's window, and bits of other counters do not matter.
+pub fn missing_law()
+    ensures { λ r. ⌜ ((s : Sessions) (store : List ℕ) (index : ℕ) (session : Session) → InSlot s index session → length store ≡ 1024 → MissingLaw s store index session) ⌝ }
+{}
+
+// The missing report of an index that no filled slot holds is turned down by 12.
+pub fn no_report_law()
+    ensures { λ r. ⌜ ((s : Sessions) (store : List ℕ) (index : ℕ) → ((session : Session) → InSlot s index session → ⊥) → length store ≡ 1024 → NoReportLaw s store index) ⌝ }
+{}
+
+// There is a report of which the law of missing reports speaks, with bits set outside the window.
+pub fn missing_example()
+    ensures { λ r. ⌜ MissingExample ⌝ }
 {}

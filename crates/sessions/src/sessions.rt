@@ -346,7 +346,7 @@ impl Sessions {
         earliest
     }
 
-    // The number of window counters of the session with this index that are not committed: 8,192 less the ones of its bitmap.
+    // The number of counters not committed to the session with this index, among the last 8,192 below the next expected one or among all where there are fewer.
     pub fn missing(self, store: &[u64], index: u32) -> Missing
         ensures { λ r. ⌜ r ≡ missing self (now (store .entry)) index ⌝ }
     {
@@ -358,7 +358,7 @@ impl Sessions {
         };
         let start = 128 * (session.receiving_index % 8) as usize;
         let end = start + 128;
-        Missing::Count(missing_of(&store[start..end]))
+        Missing::Count(missing_of(&store[start..end], session.next))
     }
 }
 

@@ -3,8 +3,11 @@ ghost use mathlib.Core.Path.{_≡_};
 ghost use Prim.Native.Nat.{_<_, _≤_};
 ghost use lib.Count.{ones};
 ghost use lib.ListN.{length};
-ghost use Rattle.sessions.specs.Store.{putSlot, Counted, missingOf};
+ghost use Rattle.base.specs.Bits.{bit};
 ghost use Rattle.base.specs.Lists.{zeros};
+ghost use Rattle.base.specs.Sums.{sum};
+ghost use Rattle.sessions.specs.Store.{putSlot, Counted, missingOf};
+ghost use Rattle.window.specs.Window.{bitAt};
 
 // Zeroes every word.
 pub fn zero(words: &mut [u64])
@@ -48,10 +51,31 @@ fn count_ones(words: &[u64]) -> u64
     ones
 }
 
-// The number of a window's counters that are not committed: 8,192 less the ones of its words.
-pub(crate) fn missing_of(words: &[u64]) -> u64
-    requires { ⌜ length (now words) ≤ 128 ⌝ }
-    ensures { λ r. ⌜ r ≡ missingOf (now (words .entry)) ⌝ }
+// The number of ones in the bits of a word below a place.
+fn ones_below(word: u64, place: u64) -> u64
+    requires { ⌜ place < 64 ⌝ }
+    ensures { λ r. ⌜ (r ≡ sum (bit word) place) × (r ≤ 64) ⌝ }
 {
+    let mask = (1 << place) - 1;
+    ones_of(word & mask)
+}
+
+// The number of committed counters below `next`, which is below 8,192: the ones of the whole words before its own, and those before it in its own.
+fn committed_below(words: &[u64], next: u64) -> u64
+    requires { ⌜ (length (now words) ≡ 128) × (next < 8192) ⌝ }
+    ensures { λ r. ⌜ (r ≡ sum (bitAt (now (words .entry))) next) × (r ≤ next) ⌝ }
+{
+    let word = (next / 64) as usize;
+    count_ones(&words[0..word]) + ones_below(words[word], next % 64)
+}
+
+// The number of a window's counters that are not committed: of the last 8,192 below `next`, or of all where there are fewer.
+pub(crate) fn missing_of(words: &[u64], next: u64) -> u64
+    requires { ⌜ length (now words) ≡ 128 ⌝ }
+    ensures { λ r. ⌜ r ≡ missingOf (now (words .entry)) next ⌝ }
+{
+    if next < 8192 {
+        return next - committed_below(words, next);
+    }
     8192 - count_ones(words)
 }

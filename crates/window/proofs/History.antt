@@ -13,6 +13,7 @@ use borrow.Author.Tests.{eqb-true}
 use Rattle.base.specs.Choice.{choose}
 use Rattle.base.proofs.Bits.{bit-zero}
 use Rattle.base.proofs.Choice.{picks, yes-le, no-le, yes-eq, no-eq}
+use Rattle.base.proofs.Sums.{cycled-again}
 use Rattle.base.proofs.Zeros.{zeros-at, length-zeros}
 use Rattle.base.specs.Lists.{zeros}
 use Rattle.window.specs.Window.{limit, wordOf, bitOf, bitAt, checkBit, setBit, clears, advance, isInvalid, willAccept, nextAfter, wordsAfter}
@@ -73,12 +74,9 @@ past-there history c y h = elim (decLe 8192 y) [
 ]
 
 -- a bit comes again after a period
-pub bit-again : (words : List ℕ) (y : ℕ) → bitAt words (8192 + y) ≡ bitAt words y
+bit-again : (words : List ℕ) (y : ℕ) → bitAt words (8192 + y) ≡ bitAt words y
 unfolding bitAt
-bit-again words y =
-    let word : wordOf (8192 + y) ≡ wordOf y = omega arith in
-    let place : bitOf (8192 + y) ≡ bitOf y = omega arith in
-    rw (word, place)
+bit-again words y = cycled-again words y
 
 bit-empty : (y : ℕ) → bitAt (zeros 128) y ≡ 0
 unfolding bitAt

@@ -15,7 +15,8 @@ use Rattle.base.proofs.Choice.{yes-le, no-le}
 use Rattle.base.proofs.Zeros.{zeros-at, length-zeros}
 use Rattle.base.specs.Lists.{zeros}
 use Rattle.window.specs.Window.{limit, clears, advance, isInvalid}
-use Rattle.window.proofs.Words.{Fitting, length-clears, clears-fits}
+use Rattle.base.proofs.Sums.{Fitting}
+use Rattle.window.proofs.Words.{length-clears, clears-fits}
 
 pub empty-fits : Fitting (zeros 128)
 empty-fits j = rw (zeros-at 128 j) (omega arith)

@@ -15,7 +15,8 @@ use Rattle.base.specs.Lists.{zeros}
 use Rattle.base.proofs.Choice.{picks, yes-le, no-le, yes-eq, no-eq}
 use Rattle.window.specs.Window.{wordOf, bitOf, bitAt, checkBit, setBit, clearBit, clears, advance, isInvalid, willAccept, nextAfter, wordsAfter, markDidReceive, Marks}
 use Rattle.window.proofs.Ready.{advance-none}
-use Rattle.window.proofs.Words.{Fitting, clears-add, length-clears, whole-word}
+use Rattle.base.proofs.Sums.{Fitting}
+use Rattle.window.proofs.Words.{clears-add, length-clears, whole-word}
 
 -- the machine's shift by a place of a word is the power of two
 shift : (b : ℕ) → b < 64 → (1 * 2 ^ b) % 2 ^ 64 ≡ 2 ^ b

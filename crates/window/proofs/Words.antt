@@ -12,11 +12,8 @@ use lib.Bits.{bitAnd, bitOr, and-le-l, or-lt}
 use lib.Pow.{pow-lt}
 use Rattle.base.specs.Bits.{bit}
 use Rattle.base.proofs.Bits.{same-bits, bit-set-same, bit-set-other, bit-clear-same, bit-clear-other, bit-zero}
+use Rattle.base.proofs.Sums.{Fitting}
 use Rattle.window.specs.Window.{wordOf, bitOf, bitAt, setBit, clearBit, clears}
-
--- every word fits 64 bits
-abbrev pub Fitting : List ℕ → Type 0
-Fitting words = (j : ℕ) → getD words j 0 < 2 ^ 64
 
 -- what a word at a changed place does to the bit of each counter
 module _ (words : List ℕ) (long : length words ≡ 128) (c w : ℕ) where

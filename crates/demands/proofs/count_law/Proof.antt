@@ -1,4 +1,4 @@
-use Rattle.demands.proofs.Judged.{count-law}
+use Rattle.demands.proofs.Missing.{count-law}
 use Rattle.demands.proofs.count_law.Statement.{statement}
 use Rattle.demands.proofs.count_law.Tie as tie
 

@@ -1,4 +1,4 @@
-use Rattle.window.proofs.Words.{Fitting}
+use Rattle.base.proofs.Sums.{Fitting}
 use Rattle.window.proofs.Steps.{word-put}
 use borrow.Author.Needs.{needs}
 use Rattle.window.proofs.clear_word.Statement.{statement}
