@@ -1,5 +1,5 @@
 //! Answers each call of a script with the original tunnel, and adds document 01's checks 1, 2
-//! and 13, the greatest time and the missing report; datagrams are read and headers written beside it.
+//! and 13, the greatest time and document 02's missing report; datagrams are read and headers written beside it.
 
 use std::fmt;
 use std::num::NonZeroUsize;
@@ -19,6 +19,7 @@ use crate::message::{
     CookieReply, Datagram, HandshakeInitiation, HandshakeResponse, InnerHandshakeInitiation,
     ReplayCheck, TransportData,
 };
+use crate::recount::Recount;
 use crate::script::{self, Call, Opening};
 use crate::session::access::{SessionView, decrypted_batch};
 use crate::session::{PendingEncapsulate, Plaintext};
@@ -33,8 +34,6 @@ const TIME_LIMIT: u64 = 4_000_000_000_000_000_000;
 const MAX_KEEPALIVE: u64 = 65_535;
 /// The greatest number of messages in a batch.
 const MAX_BATCH: usize = 1_024;
-/// The number of bits of a window.
-const WINDOW: u32 = 8_192;
 
 /// The number that turns a call down.
 pub type Number = u8;
@@ -73,7 +72,7 @@ pub enum Answer {
     },
     Expired,
     At(u64),
-    Missing(u32),
+    Missing(u64),
     Type1 {
         sender: u32,
     },
@@ -131,11 +130,12 @@ pub struct Driver {
     held: Option<Held>,
 }
 
-/// A tunnel and the greatest time it was given.
+/// A tunnel, the greatest time it was given and the counters it was seen to commit.
 struct Held {
     tunnel: Tunnel,
     base: Instant,
     greatest: u64,
+    recount: Recount,
 }
 
 impl Default for Driver {
@@ -216,6 +216,7 @@ impl Held {
             tunnel: tunnel.expect("a creation that passed its checks is good"),
             base,
             greatest: time,
+            recount: Recount::default(),
         }
     }
 
@@ -387,19 +388,19 @@ impl Held {
         }
         self.not_back(time)?;
 
+        let counters: Vec<u64> = messages.iter().map(|(counter, _)| *counter).collect();
         let messages = messages.into_iter().map(opened).collect();
         let batch = decrypted_batch(index, session, messages);
-        let committed = self
+        let verdicts: Vec<Number> = self
             .tunnel
             .commit_decapsulate(batch, self.instant(time))
-            .map_err(Error::number)?;
+            .map_err(Error::number)?
+            .map(|message| message.map_or_else(Error::number, |_| 0))
+            .collect();
         self.greatest = time;
+        self.recount.note(session, &counters, &verdicts);
 
-        Ok(Answer::Verdicts(
-            committed
-                .map(|message| message.map_or_else(Error::number, |_| 0))
-                .collect(),
-        ))
+        Ok(Answer::Verdicts(verdicts))
     }
 
     /// Looks at a counter without committing it; nothing changes, not even the greatest time.
@@ -462,10 +463,10 @@ impl Held {
 
     /// The count of window counters that were not committed, of the session with exactly `index`.
     fn missing(&self, index: u32) -> Result<Answer, Number> {
-        let ones = self.tunnel.sessions().ones(Index::from_peer(index));
+        let session = self.tunnel.sessions().view(Index::from_peer(index));
+        let session = session.ok_or(NO_SESSION)?;
 
-        ones.map(|ones| Answer::Missing(WINDOW - ones))
-            .ok_or(NO_SESSION)
+        Ok(Answer::Missing(self.recount.missing(session.id)))
     }
 
     /// Turns down a time earlier than the greatest one.
@@ -725,6 +726,32 @@ mod tests {
                 receiver: 0x0807_0605,
             })
         );
+    }
+
+    #[test]
+    fn missing_counters_and_set_bits_make_up_the_window() {
+        let mut held = tunnel();
+        let index = Index::from_peer(257);
+        let openings = [Opening::Data, Opening::Keepalive, Opening::Failed];
+        held.hello(9, 0, 0).expect("a session");
+
+        for step in 0..6_000u64 {
+            let session = held.tunnel.sessions().view(index).expect("the session");
+            let ones = held.tunnel.sessions().ones(index).expect("the session");
+            let window = session.next_received.min(8_192);
+            let missing = window - u64::from(ones);
+            assert_eq!(held.missing(257), Ok(Answer::Missing(missing)));
+
+            let back = step.wrapping_mul(0x9e37_79b9_7f4a_7c15) >> (step % 7 + 50);
+            let counter = match step % 3 {
+                0 => session.next_received + back % 12,
+                1 => session.next_received.saturating_sub(back),
+                _ => session.next_received.saturating_sub(back % 70),
+            };
+            let opening = openings[(step % 5 / 2) as usize];
+            let verdict = held.recv(257, 0, 0, vec![(counter, opening)]);
+            verdict.expect("a verdict");
+        }
     }
 
     #[test]

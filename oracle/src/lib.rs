@@ -6,6 +6,7 @@ mod datagram;
 mod datagram_speed;
 mod driver;
 mod errors;
+mod recount;
 mod script;
 mod speed;
 

@@ -285,7 +285,10 @@ impl Maker {
             85..105 => next.saturating_sub(near),
             105..125 => next.saturating_add(edge),
             125..145 => next.saturating_add(near),
-            145..160 => ((next & !63).saturating_add(word) + beside).saturating_sub(1),
+            145..160 => (next & !63)
+                .saturating_add(word)
+                .wrapping_add(beside)
+                .saturating_sub(1),
             160..170 => (next.saturating_sub(WINDOW) & !63) + word + beside,
             170..180 => next.saturating_sub(self.random.below(WINDOW + 2)),
             180..190 => next.saturating_add(self.random.below(3 * WINDOW)),

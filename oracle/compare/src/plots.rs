@@ -25,6 +25,7 @@ pub(crate) enum Plot {
     Climb,
     Sweep,
     Jumps,
+    Growth,
     Passive,
     Persistent,
     CookieLife,
@@ -52,6 +53,7 @@ impl Maker {
             Plot::Climb => self.climb_counter(),
             Plot::Sweep => self.sweep_window(),
             Plot::Jumps => self.jump_window(),
+            Plot::Growth => self.grow_window(),
             Plot::Passive => self.passive_keepalive(),
             Plot::Persistent => self.persistent_keepalive(),
             Plot::CookieLife => self.cookie_life(),
@@ -93,7 +95,7 @@ impl Maker {
     }
 
     /// Takes a good incoming initiation and gives its local index.
-    fn good_hello(&mut self) -> Option<u32> {
+    pub(crate) fn good_hello(&mut self) -> Option<u32> {
         let peer = self.fresh_peer();
         let time = self.good_time();
 
@@ -507,7 +509,7 @@ impl Maker {
     }
 
     /// The next counter that a session expects.
-    fn next_received(&self, index: u32, id: u64) -> Option<u64> {
+    pub(crate) fn next_received(&self, index: u32, id: u64) -> Option<u64> {
         let view = self.view()?;
         let mut sessions = view.sessions.iter();
 

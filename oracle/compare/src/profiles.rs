@@ -146,6 +146,7 @@ const MIXED_PLOTS: &[(u64, Plot)] = &[
     (5, Plot::Climb),
     (6, Plot::Sweep),
     (2, Plot::Jumps),
+    (4, Plot::Growth),
     (8, Plot::Passive),
     (5, Plot::Persistent),
     (5, Plot::CookieLife),
@@ -157,6 +158,7 @@ const WINDOW_PLOTS: &[(u64, Plot)] = &[
     (1, Plot::Initiator),
     (50, Plot::Sweep),
     (40, Plot::Jumps),
+    (40, Plot::Growth),
 ];
 const LIFE_PLOTS: &[(u64, Plot)] = &[
     (10, Plot::Initiator),
@@ -192,6 +194,7 @@ const COUNTER_PLOTS: &[(u64, Plot)] = &[
     (8, Plot::Initiator),
     (8, Plot::Responder),
     (50, Plot::Climb),
+    (8, Plot::Growth),
     (8, Plot::Deadlines),
     (8, Plot::Answered),
 ];
@@ -202,6 +205,7 @@ const EXPIRY_PLOTS: &[(u64, Plot)] = &[
     (25, Plot::Silence),
     (30, Plot::Missed),
     (5, Plot::Deadlines),
+    (4, Plot::Growth),
 ];
 
 const KEEPALIVES: &[u64] = &[0, 0, 0, 0, 0, 0, 1, 10, 25, 120, 180, 65_535];

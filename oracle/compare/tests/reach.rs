@@ -1,8 +1,8 @@
-//! Makes sure that the scripts reach every call, every refusal, every event and every type of datagram.
+//! Makes sure that the scripts reach every call, every refusal, every event, every type of datagram and the edges of a young window.
 
 use std::collections::BTreeSet;
 
-use compare::{datagram_scripts, make_script};
+use compare::{datagram_scripts, gap_scripts, make_script};
 use oracle::{Answer, Call, Driver};
 
 /// What a range of seeds has met.
@@ -89,6 +89,48 @@ fn datagram_scripts_reach_every_type_and_refusal() {
     assert_eq!(met.refusals, BTreeSet::from([2, 15, 16]));
     assert_eq!(met.datagrams, types());
     assert!(met.unreadable > 1_000);
+}
+
+/// The next counters of the sessions whose missing report was asked for.
+fn next_counters_asked(lines: &[Vec<u8>]) -> BTreeSet<u64> {
+    let mut driver = Driver::new();
+    let mut counters = BTreeSet::new();
+
+    for line in lines {
+        if let Some(Call::Missing { index }) = oracle::read(line) {
+            let sessions = driver.view().map_or_else(Vec::new, |view| view.sessions);
+            let asked = sessions.iter().filter(|session| session.index == index);
+            counters.extend(asked.map(|session| session.next_received));
+        } else {
+            let _ = driver.answer(line);
+        }
+    }
+
+    counters
+}
+
+#[test]
+fn gap_scripts_ask_at_every_next_counter() {
+    let mut counters = BTreeSet::new();
+
+    for (_, script) in gap_scripts() {
+        counters.extend(next_counters_asked(&script.lines));
+    }
+
+    assert!((0..=8_330).all(|next| counters.contains(&next)));
+}
+
+#[test]
+fn scripts_ask_at_the_edges_of_a_young_window() {
+    let mut counters = BTreeSet::new();
+
+    for seed in 0..300 {
+        counters.extend(next_counters_asked(&make_script(seed, 150).lines));
+    }
+
+    for next in [0, 1, 63, 64, 65, 127, 128, 129, 8_191, 8_192, 8_193] {
+        assert!(counters.contains(&next), "{next}");
+    }
 }
 
 #[test]

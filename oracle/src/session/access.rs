@@ -34,6 +34,11 @@ impl Sessions {
         Some(self.get(index)?.receiving_key_counter.ones())
     }
 
+    /// What can be seen of the session with exactly `index`.
+    pub(crate) fn view(&self, index: Index) -> Option<SessionView> {
+        Some(self.get(index)?.view())
+    }
+
     /// What can be seen of each filled slot.
     pub(crate) fn views(&self) -> Vec<SessionView> {
         self.slots.iter().flatten().map(Session::view).collect()

@@ -1,17 +1,21 @@
 //! Runs two programs on the same scripts and compares their answers line by line:
-//! compare A B [--seeds FROM..TO] [--exhaustive N] [--datagrams] [--lines M] [--stop] [--no-cut]
+//! compare A B [--seeds FROM..TO] [--manner D] [--exhaustive N] [--datagrams] [--gaps] [--lines M] [--stop] [--no-cut]
 
 use std::env;
 use std::process::ExitCode;
 
-use compare::{Comparison, Exhaustive, Script, datagram_scripts, make_script, profile_name};
+use compare::{
+    Comparison, Exhaustive, Script, datagram_scripts, gap_scripts, make_script, profile_name,
+};
 
 /// What to compare.
 struct Options {
     programs: [String; 2],
     seeds: (u64, u64),
+    manner: Option<u64>,
     exhaustive: u32,
     datagrams: bool,
+    gaps: bool,
     lines: usize,
     stop: bool,
     cut: bool,
@@ -20,21 +24,24 @@ struct Options {
 fn main() -> ExitCode {
     let Some(options) = options() else {
         eprintln!(
-            "usage: compare A B [--seeds FROM..TO] [--exhaustive N] [--datagrams] [--lines M] [--stop] [--no-cut]"
+            "usage: compare A B [--seeds FROM..TO] [--manner D] [--exhaustive N] [--datagrams] [--gaps] [--lines M] [--stop] [--no-cut]"
         );
         return ExitCode::from(2);
     };
 
     let (from, to) = options.seeds;
-    let seeds = (from..to).map(|seed| of_seed(seed, options.lines));
+    let seeds = (from..to)
+        .filter(|seed| options.manner.is_none_or(|digit| seed % 10 == digit))
+        .map(|seed| of_seed(seed, options.lines));
     let words = Exhaustive::new(options.exhaustive)
         .enumerate()
         .map(|(at, script)| (format!("word {at}"), script));
     let datagrams = options.datagrams.then(datagram_scripts).unwrap_or_default();
+    let gaps = options.gaps.then(gap_scripts).unwrap_or_default();
     let [a, b] = &options.programs;
     let mut comparison = Comparison::new([a, b], options.stop, options.cut);
 
-    comparison.go_through(seeds.chain(words).chain(datagrams));
+    comparison.go_through(seeds.chain(words).chain(datagrams).chain(gaps));
     comparison.report();
 
     ExitCode::from(u8::from(comparison.differences() > 0))
@@ -53,8 +60,10 @@ fn options() -> Option<Options> {
     let mut options = Options {
         programs: [arguments.next()?, arguments.next()?],
         seeds: (0, 0),
+        manner: None,
         exhaustive: 0,
         datagrams: false,
+        gaps: false,
         lines: 150,
         stop: false,
         cut: true,
@@ -77,6 +86,11 @@ fn options() -> Option<Options> {
                 options.datagrams = true;
                 chosen = true;
             }
+            "--gaps" => {
+                options.gaps = true;
+                chosen = true;
+            }
+            "--manner" => options.manner = Some(arguments.next()?.parse().ok()?),
             "--lines" => options.lines = arguments.next()?.parse().ok()?,
             "--stop" => options.stop = true,
             "--no-cut" => options.cut = false,

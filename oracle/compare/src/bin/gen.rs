@@ -1,10 +1,10 @@
-//! Writes the script of a seed, or all datagram scripts one after another: gen SEED [LINES] | gen --datagrams
+//! Writes the script of a seed, or all datagram or gap scripts one after another: gen SEED [LINES] | gen --datagrams | gen --gaps
 
 use std::env;
 use std::io::{self, BufWriter, Write};
 use std::process;
 
-use compare::{datagram_scripts, make_script};
+use compare::{Script, datagram_scripts, gap_scripts, make_script};
 
 /// The length of a script where none is given.
 const LINES: usize = 150;
@@ -12,7 +12,7 @@ const LINES: usize = 150;
 fn main() -> io::Result<()> {
     let arguments: Vec<String> = env::args().skip(1).collect();
     let Some(lines) = lines(&arguments) else {
-        eprintln!("usage: gen SEED [LINES] | gen --datagrams");
+        eprintln!("usage: gen SEED [LINES] | gen --datagrams | gen --gaps");
         process::exit(2);
     };
 
@@ -28,13 +28,17 @@ fn main() -> io::Result<()> {
 /// The lines that are asked for, or nothing where the arguments are not as they should be.
 fn lines(arguments: &[String]) -> Option<Vec<Vec<u8>>> {
     match arguments {
-        [name] if name == "--datagrams" => {
-            let scripts = datagram_scripts().into_iter();
-
-            Some(scripts.flat_map(|(_, script)| script.lines).collect())
-        }
+        [name] if name == "--datagrams" => Some(all_lines(datagram_scripts())),
+        [name] if name == "--gaps" => Some(all_lines(gap_scripts())),
         [seed] => Some(make_script(seed.parse().ok()?, LINES).lines),
         [seed, lines] => Some(make_script(seed.parse().ok()?, lines.parse().ok()?).lines),
         _ => None,
     }
+}
+
+/// The lines of all scripts, one after another.
+fn all_lines(scripts: Vec<(String, Script)>) -> Vec<Vec<u8>> {
+    let scripts = scripts.into_iter();
+
+    scripts.flat_map(|(_, script)| script.lines).collect()
 }

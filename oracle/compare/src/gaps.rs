@@ -1,0 +1,251 @@
+//! The gap scripts: windows of every length that document 02's note 2 tells apart, with the missing report after each commit.
+
+use oracle::{Answer, Driver};
+
+use crate::maker::Script;
+use crate::moves::LIMIT;
+use crate::times::SECOND;
+
+/// Next counters at which the missing report is counted otherwise, or just beside them.
+pub(crate) const EDGES: [u64; 11] = [0, 1, 63, 64, 65, 127, 128, 129, 8_191, 8_192, 8_193];
+/// How many counters a jump skips.
+pub(crate) const JUMPS: [u64; 11] = [
+    63, 64, 65, 127, 129, 1_000, 8_127, 8_128, 8_191, 8_192, 8_193,
+];
+
+/// The next counter up to which windows grow.
+const LAST: u64 = 8_330;
+/// The most counters of a full window.
+const WINDOW: u64 = 8_192;
+
+/// All gap scripts with the names they are reported by.
+pub fn gap_scripts() -> Vec<(String, Script)> {
+    let mut parts = vec![
+        ("in order".to_string(), grown(0, 1)),
+        ("every second".to_string(), grown(1, 2)),
+        ("openings".to_string(), openings()),
+        ("at the limit".to_string(), at_limit()),
+        ("two sessions".to_string(), side_by_side()),
+        ("a session replaced".to_string(), replaced()),
+        ("an index again".to_string(), returned()),
+        ("ends".to_string(), ends()),
+    ];
+    for first in 0..3 {
+        parts.push((format!("every third from {first}"), grown(first, 3)));
+    }
+    for jump in JUMPS {
+        parts.push((format!("jumps of {jump}"), jumps(jump)));
+    }
+
+    parts
+        .into_iter()
+        .map(|(name, gaps)| (format!("gaps: {name}"), Script { lines: gaps.lines }))
+        .collect()
+}
+
+/// A session by its local index and its id.
+#[derive(Clone, Copy)]
+struct Session {
+    index: u32,
+    id: u64,
+}
+
+/// A script under way, and the oracle that tells its sessions.
+struct Gaps {
+    driver: Driver,
+    lines: Vec<Vec<u8>>,
+}
+
+impl Gaps {
+    /// A new tunnel, whose indices soon wrap.
+    fn new() -> Self {
+        let mut gaps = Self {
+            driver: Driver::new(),
+            lines: Vec::new(),
+        };
+        gaps.ask("new 507 0 0".to_string());
+
+        gaps
+    }
+
+    /// A new tunnel with a fresh session.
+    fn with_session() -> (Self, Session) {
+        let mut gaps = Self::new();
+        let session = gaps.session();
+
+        (gaps, session)
+    }
+
+    /// Adds a line and gives the answer, if it is good.
+    fn ask(&mut self, line: String) -> Option<Answer> {
+        let answer = self.driver.answer(line.as_bytes());
+
+        self.lines.push(line.into_bytes());
+        answer.ok()
+    }
+
+    /// Answers an initiation of the peer and asks for the missing report of the fresh session.
+    fn session(&mut self) -> Session {
+        self.ask("hello 9 0 0".to_string());
+        let sessions = self.driver.view().map_or_else(Vec::new, |v| v.sessions);
+        let newest = sessions.iter().max_by_key(|session| session.id);
+        let newest = newest.expect("a session that was just made");
+        let session = Session {
+            index: newest.index,
+            id: newest.id,
+        };
+
+        self.missing(session);
+        session
+    }
+
+    /// Asks for the missing report of a session.
+    fn missing(&mut self, session: Session) {
+        let line = format!("missing {}", session.index);
+
+        self.lines.push(line.into_bytes());
+    }
+
+    /// Receives one message on a session and asks for its missing report.
+    fn receive(&mut self, session: Session, counter: u64, opening: char) {
+        let Session { index, id } = session;
+
+        self.ask(format!("recv {index} {id} 0 {counter} {opening}"));
+        self.missing(session);
+    }
+
+    /// Commits counters one by one, with the missing report after each.
+    fn commit(&mut self, session: Session, counters: impl Iterator<Item = u64>) {
+        for counter in counters {
+            self.receive(session, counter, 'd');
+        }
+    }
+
+    /// Fills the counters from `first` up to `end` back to front: all near both ends, others now and then.
+    fn fill(&mut self, session: Session, first: u64, end: u64) {
+        let near = |counter: &u64| *counter < first + 70 || *counter + 70 >= end;
+        let filled = |counter: &u64| near(counter) || (end - counter).is_multiple_of(97);
+
+        self.commit(session, (first..end).rev().filter(filled));
+    }
+}
+
+/// A session that commits every `step`th counter from `first` on, so that its window grows past 8,192.
+fn grown(first: u64, step: usize) -> Gaps {
+    let (mut gaps, session) = Gaps::with_session();
+
+    gaps.commit(session, (first..LAST).step_by(step));
+    gaps
+}
+
+/// Counters whose opening fails, which then come as a keepalive and once more as data.
+fn openings() -> Gaps {
+    let (mut gaps, session) = Gaps::with_session();
+
+    for counter in (0..200).chain(8_125..LAST) {
+        for opening in ['f', 'k', 'd'] {
+            gaps.receive(session, counter, opening);
+        }
+    }
+    gaps
+}
+
+/// A jump from a fresh window, the counters behind it filled, and the same jump again from there.
+fn jumps(jump: u64) -> Gaps {
+    let (mut gaps, session) = Gaps::with_session();
+    let mut next = 0;
+
+    for _ in 0..3 {
+        let ahead = next + jump;
+        gaps.receive(session, ahead, 'd');
+        gaps.fill(session, (ahead + 1).saturating_sub(WINDOW + 2), ahead);
+        next = ahead + 1;
+    }
+    gaps
+}
+
+/// A window at the end of all counters, filled, and one that reaches it counter by counter.
+fn at_limit() -> Gaps {
+    let (mut gaps, session) = Gaps::with_session();
+    gaps.commit(session, [LIMIT, LIMIT - 1].into_iter());
+    gaps.fill(session, LIMIT - WINDOW - 2, LIMIT);
+
+    let session = gaps.session();
+    gaps.commit(session, LIMIT - 200..LIMIT + 3);
+    gaps
+}
+
+/// Two sessions by turns, one in order and one with gaps, and both reports after each commit.
+fn side_by_side() -> Gaps {
+    let (mut gaps, first) = Gaps::with_session();
+    let second = gaps.session();
+
+    for counter in (0..140).chain(8_125..LAST) {
+        gaps.receive(first, counter, 'd');
+        gaps.missing(second);
+        gaps.receive(second, 3 * counter, 'k');
+        gaps.missing(first);
+    }
+    gaps
+}
+
+/// A session whose slot goes to another one, which then has a window of its own.
+fn replaced() -> Gaps {
+    let (mut gaps, old) = Gaps::with_session();
+    gaps.commit(old, 0..70);
+    let current = gaps.session();
+    gaps.commit(current, 0..1);
+
+    let mut new = gaps.session();
+    while new.index % 8 != old.index % 8 {
+        new = gaps.session();
+    }
+    gaps.missing(old);
+    gaps.receive(old, 70, 'd');
+    gaps.receive(Session { id: old.id, ..new }, 70, 'd');
+    gaps.commit(new, (1..140).step_by(2));
+    gaps.commit(new, [8_190, 8_191, 8_192].into_iter());
+    gaps.missing(current);
+    gaps
+}
+
+/// A session whose index goes to another one, which then has a window of its own.
+fn returned() -> Gaps {
+    let (mut gaps, old) = Gaps::with_session();
+    gaps.commit(old, (0..140).step_by(2));
+    let current = gaps.session();
+    gaps.commit(current, 0..1);
+
+    let last = |gaps: &Gaps| gaps.driver.view().map_or(0, |view| view.last_index);
+    while (last(&gaps) + 1) % 256 != old.index % 256 {
+        gaps.ask("hello 9 3 0".to_string());
+        gaps.missing(old);
+    }
+    let new = gaps.session();
+    gaps.receive(old, 140, 'd');
+    gaps.commit(new, 0..140);
+    gaps.missing(current);
+    gaps
+}
+
+/// A session past its end, before and after the waking that empties its slot, and in a tunnel created anew.
+fn ends() -> Gaps {
+    let (mut gaps, session) = Gaps::with_session();
+    let Session { index, id } = session;
+    let end = 180 * SECOND;
+    gaps.commit(session, [0, 1, 2, 3, 4, 9].into_iter());
+
+    gaps.ask(format!("recv {index} {id} {end} 10 d"));
+    gaps.missing(session);
+    gaps.ask(format!("wake 0 {end}"));
+    gaps.missing(session);
+    gaps.ask(format!("wake 0 {}", 3 * end));
+    gaps.missing(session);
+    gaps.ask("new 507 65536 0".to_string());
+    gaps.missing(session);
+    gaps.ask("new 507 0 0".to_string());
+    gaps.missing(session);
+    let session = gaps.session();
+    gaps.commit(session, [4, 0].into_iter());
+    gaps
+}
