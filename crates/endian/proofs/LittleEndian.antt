@@ -2,16 +2,19 @@
 -- induction over the width.
 -- Assumes nothing.
 use mathlib.Core.Path.{_≡_, refl, ap, sym, _∙_}
+use mathlib.Core.Bool.{Bool, true, false}
 use mathlib.Core.List.{List, [], _∷_, _++_, append-nil}
-use Prim.Native.Nat.{ℕ, zero, suc, _+_, _*_, _/_, _%_, _^_, _<_}
+use Prim.Native.Nat.{ℕ, zero, suc, _+_, _*_, _/_, _%_, _^_, _≤_, _<_}
 use native.Mathlib.Nat.{pow-suc, pow-succ', div-div-eq-div-mul, mul-assoc, zero-mul}
 use native.Mathlib.Omega.{arith}
-use lib.ListN.{length, getD, set, take, drop, length-drop, drop-of-length-le}
-use lib.Pow.{field, mod-mod-pow}
-use lib.Seq.{take-all}
+use lib.Dec.{ltb}
+use lib.ListN.{length, getD, set, take, drop, length-take, length-drop, drop-of-length-le, List·getD-eq-default}
+use lib.Pow.{field as pow-field, mod-mod-pow}
+use lib.Seq.{take-all, length-take-le, getD-take, getD-drop}
+use borrow.Author.Tests.{ltb-true, ltb-false}
 use borrow.Rule.Slice.PartMut.{putMid}
 use Rattle.base.proofs.Parts.{put-next}
-use Rattle.endian.specs.LittleEndian.{fromLeBytes, toLeBytes, Bytes}
+use Rattle.endian.specs.LittleEndian.{field, fromLeBytes, toLeBytes, Bytes}
 
 -- so many bytes are so many
 pub to-size : (width n : ℕ) → length (toLeBytes width n) ≡ width
@@ -77,7 +80,7 @@ unfolding toLeBytes bits
 to-low zero n = refl
 to-low (suc width) n =
     let first : n % 2 ^ (bits width + 8) % 256 ≡ n % 256 = mod-mod-pow n (bits width) 8 in
-    let rest : n % 2 ^ (bits width + 8) / 256 ≡ n / 256 % 2 ^ bits width = field n (bits width) 8 in
+    let rest : n % 2 ^ (bits width + 8) / 256 ≡ n / 256 % 2 ^ bits width = pow-field n (bits width) 8 in
     rw (first, rest) (ap (λ (l : List ℕ). n % 256 ∷ l) (to-low width (n / 256)))
 
 -- the two halves of eight bytes
@@ -124,3 +127,25 @@ from-to (byte ∷ bytes) b =
     let first : (byte + 256 * fromLeBytes bytes) % 256 ≡ byte = omega (arith, b .below 0) in
     let rest : (byte + 256 * fromLeBytes bytes) / 256 ≡ fromLeBytes bytes = omega (arith, b .below 0) in
     rw (first, rest) (ap (λ (l : List ℕ). byte ∷ l) (from-to bytes (rest-bytes byte bytes b)))
+
+-- a part of a list of bytes
+module _ (bytes : List ℕ) (b : Bytes bytes) where
+  part-bytes : (at width : ℕ) → Bytes (take width (drop at bytes))
+  part-bytes at width = record { below = λ (place : ℕ). within place (ltb place width) refl }
+    where
+      within : (place : ℕ) (t : Bool) → ltb place width ≡ t → getD (take width (drop at bytes)) place 0 < 256
+      within place true e =
+          rw (getD-take width (drop at bytes) place 0 (ltb-true place width e), getD-drop at bytes place 0) (b .below (at + place))
+      within place false e =
+          rw (List·getD-eq-default (take width (drop at bytes)) 0 {n = place} (omega (arith, ltb-false place width e, length-take width (drop at bytes)))) (omega arith)
+
+  part-again : (at width : ℕ) → at + width ≤ length bytes → toLeBytes width (field at width bytes) ≡ take width (drop at bytes)
+  unfolding field
+  part-again at width h =
+      let size : length (take width (drop at bytes)) ≡ width =
+      length-take-le width (drop at bytes) (omega (arith, length-drop at bytes)) in
+      ap (λ (n : ℕ). toLeBytes n (fromLeBytes (take width (drop at bytes)))) (sym size)
+      ∙ from-to (take width (drop at bytes)) (part-bytes at width)
+
+pub to-part : (at width : ℕ) (bytes : List ℕ) → Bytes bytes → at + width ≤ length bytes → toLeBytes width (field at width bytes) ≡ take width (drop at bytes)
+to-part at width bytes b = part-again bytes b at width

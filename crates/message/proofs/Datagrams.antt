@@ -7,8 +7,8 @@ use native.Mathlib.Omega.{arith}
 use lib.ListN.{length, drop}
 use borrow.Author.Tests.{lt-leb, eq-eqb, ne-eqb}
 use Rattle.base.specs.Choice.{choose}
-use Rattle.endian.specs.LittleEndian.{fromLeBytes}
-use Rattle.message.specs.Message.{field, readInitiation, readResponse, readCookieReply, readData, readDatagram, encryptedPart, encryptedFrom, caseData, messageNumber, messageValues}
+use Rattle.endian.specs.LittleEndian.{field, fromLeBytes}
+use Rattle.message.specs.Message.{readInitiation, readResponse, readCookieReply, readData, readDatagram, encryptedPart, encryptedFrom, caseData, messageNumber, messageValues}
 use Rattle.message.specs.Laws.{four, eight, Says, TurnedAway, Part, Length, ofInitiation, ofResponse, ofCookieReply, ofData}
 use Rattle.message.specs.declared.ReceivedMessage.the-variants.{No, HandshakeInitiation, HandshakeResponse, CookieReply, TransportData}
 use Rattle.message.specs.declared.ReceivedMessage.{ReceivedMessage}

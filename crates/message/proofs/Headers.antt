@@ -5,15 +5,15 @@ use mathlib.Core.Bool.{Bool, true, false}
 use mathlib.Core.List.{List, [], _++_, _∷_}
 use Prim.Native.Nat.{ℕ, _+_, _-_, _≤_, _<_}
 use native.Mathlib.Omega.{arith}
-use lib.Dec.{ltb, leb, eqb}
-use lib.ListN.{length, getD, take, drop, length-take, length-drop, take-append-drop, List·getD-eq-default}
-use lib.Seq.{length-take-le, getD-take, getD-drop, take-add}
-use borrow.Author.Tests.{eq-eqb, ne-eqb, ltb-true, ltb-false, leb-true, leb-false, eqb-true, eqb-false}
+use lib.Dec.{leb, eqb}
+use lib.ListN.{length, getD, take, drop, take-append-drop}
+use lib.Seq.{take-add}
+use borrow.Author.Tests.{eq-eqb, ne-eqb, leb-true, leb-false, eqb-true, eqb-false}
 use Rattle.base.specs.Choice.{choose}
 use Rattle.base.proofs.Choice.{known-choice}
-use Rattle.endian.specs.LittleEndian.{fromLeBytes, toLeBytes, Bytes}
+use Rattle.endian.specs.LittleEndian.{field, fromLeBytes, toLeBytes, Bytes}
 use Rattle.endian.proofs.Laws.{little-endian-law}
-use Rattle.message.specs.Message.{field, readDatagram, encryptedPart, encryptedFrom, caseData, header, headerAnswer, headerBytes, messageNumber, messageValues, writtenNumber}
+use Rattle.message.specs.Message.{readDatagram, encryptedPart, encryptedFrom, caseData, header, headerAnswer, headerBytes, messageNumber, messageValues, writtenNumber}
 use Rattle.message.specs.Laws.{Says, Part}
 use Rattle.message.specs.declared.ReceivedMessage.the-variants.{No, HandshakeInitiation, HandshakeResponse, CookieReply, TransportData}
 use Rattle.message.specs.declared.ReceivedMessage.{ReceivedMessage}
@@ -67,30 +67,13 @@ module _ (bytes : List ℕ) where
             begins = ap (λ (l : List ℕ). encryptedFrom (l ++ rest)) (bytes-written h) ∙ rw read;
           }
 
--- a part of a list of bytes
+-- the header of a data message is made of the fields that stand in it
 module _ (message : List ℕ) (b : Bytes message) where
-  part-bytes : (at width : ℕ) → Bytes (take width (drop at message))
-  part-bytes at width = record { below = λ (place : ℕ). within place (ltb place width) refl }
-    where
-      within : (place : ℕ) (t : Bool) → ltb place width ≡ t → getD (take width (drop at message)) place 0 < 256
-      within place true e =
-          rw (getD-take width (drop at message) place 0 (ltb-true place width e), getD-drop at message place 0) (b .below (at + place))
-      within place false e =
-          rw (List·getD-eq-default (take width (drop at message)) 0 {n = place} (omega (arith, ltb-false place width e, length-take width (drop at message)))) (omega arith)
-
-  part-again : (at width : ℕ) → at + width ≤ length message → toLeBytes width (field at width message) ≡ take width (drop at message)
-  unfolding field
-  part-again at width h =
-      let size : length (take width (drop at message)) ≡ width =
-      length-take-le width (drop at message) (omega (arith, length-drop at message)) in
-      ap (λ (n : ℕ). toLeBytes n (fromLeBytes (take width (drop at message)))) (sym size)
-      ∙ little-endian-law .bytes (take width (drop at message)) (part-bytes at width)
-
   header-again : 32 ≤ length message → field 0 4 message ≡ 4 → header (field 4 4 message) (field 8 8 message) ≡ take 16 message
   unfolding header
   header-again l t =
-      let first : toLeBytes 4 4 ≡ take 4 (drop 0 message) = ap (toLeBytes 4) (sym t) ∙ part-again 0 4 (omega arith) in
-      rw (first, part-again 4 4 (omega arith), part-again 8 8 (omega arith))
+      let first : toLeBytes 4 4 ≡ take 4 (drop 0 message) = ap (toLeBytes 4) (sym t) ∙ little-endian-law .part 0 4 message b (omega arith) in
+      rw (first, little-endian-law .part 4 4 message b (omega arith), little-endian-law .part 8 8 message b (omega arith))
       (sym (take-add 8 8 message ∙ ap (λ (m : List ℕ). m ++ take 8 (drop 8 message)) (take-add 4 4 message)))
 
 -- only a data message has a data message's values

@@ -12,8 +12,8 @@ use borrow.Rule.Slice.PartAt.{slPart}
 use lib.Dec.{ltb, leb, eqb}
 use Rattle.base.specs.Choice.{choose}
 use Rattle.base.proofs.Choice.{of-choice, known-choice}
-use Rattle.endian.specs.LittleEndian.{fromLeBytes}
-use Rattle.message.specs.Message.{field, readInitiation, readResponse, readCookieReply, readData, readDatagram, caseData, encryptedPart, encryptedFrom, EncryptedPart}
+use Rattle.endian.specs.LittleEndian.{field, fromLeBytes}
+use Rattle.message.specs.Message.{readInitiation, readResponse, readCookieReply, readData, readDatagram, caseData, encryptedPart, encryptedFrom, EncryptedPart}
 use Rattle.message.specs.declared.ReceivedMessage.the-variants.{No, TransportData}
 use Rattle.message.specs.declared.ReceivedMessage.{ReceivedMessage}
 

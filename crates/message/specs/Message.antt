@@ -4,17 +4,13 @@ use mathlib.Core.List.{List, [], _++_, _∷_}
 use Prim.Native.Nat.{ℕ, _+_}
 use denote.Ref.{RefT, now}
 use lib.Dec.{ltb, leb, eqb}
-use lib.ListN.{length, take, drop}
+use lib.ListN.{length, drop}
 use Rattle.base.specs.Choice.{choose}
-use Rattle.endian.specs.LittleEndian.{fromLeBytes, toLeBytes}
+use Rattle.endian.specs.LittleEndian.{field, toLeBytes}
 use Rattle.message.specs.declared.ReceivedMessage.the-variants.{No, HandshakeInitiation, HandshakeResponse, CookieReply, TransportData}
 use Rattle.message.specs.declared.ReceivedMessage.{ReceivedMessage}
 use Rattle.message.specs.declared.Written.the-variants.{Invalid, Done}
 use Rattle.message.specs.declared.Written.{Written}
-
--- the little-endian number that stands at a place, of so many bytes
-unfoldable pub field : (at width : ℕ) → List ℕ → ℕ
-field at width bytes = fromLeBytes (take width (drop at bytes))
 
 -- type 1, of 148 bytes: the sender's index
 unfoldable pub readInitiation : List ℕ → ReceivedMessage

@@ -1,6 +1,7 @@
 use borrow.Author.Needs.{needs}
 use Rattle.base.proofs.Choice.{picks}
-use Rattle.message.specs.Message.{readCookieReply, field}
+use Rattle.endian.specs.LittleEndian.{field}
+use Rattle.message.specs.Message.{readCookieReply}
 use Rattle.message.proofs.read_cookie_reply.Statement.{statement}
 use Rattle.message.proofs.read_cookie_reply.Tie as tie
 

@@ -1,6 +1,7 @@
 use borrow.Author.Needs.{needs}
 use Rattle.base.proofs.Choice.{picks}
-use Rattle.message.specs.Message.{readData, field}
+use Rattle.endian.specs.LittleEndian.{field}
+use Rattle.message.specs.Message.{readData}
 use Rattle.message.proofs.read_data.Statement.{statement}
 use Rattle.message.proofs.read_data.Tie as tie
 

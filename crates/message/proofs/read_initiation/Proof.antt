@@ -1,6 +1,7 @@
 use borrow.Author.Needs.{needs}
 use Rattle.base.proofs.Choice.{picks}
-use Rattle.message.specs.Message.{readInitiation, field}
+use Rattle.endian.specs.LittleEndian.{field}
+use Rattle.message.specs.Message.{readInitiation}
 use Rattle.message.proofs.read_initiation.Statement.{statement}
 use Rattle.message.proofs.read_initiation.Tie as tie
 

@@ -1,6 +1,7 @@
 use borrow.Author.Needs.{needs}
 use Rattle.base.proofs.Choice.{picks}
-use Rattle.message.specs.Message.{readResponse, field}
+use Rattle.endian.specs.LittleEndian.{field}
+use Rattle.message.specs.Message.{readResponse}
 use Rattle.message.proofs.read_response.Statement.{statement}
 use Rattle.message.proofs.read_response.Tie as tie
 
