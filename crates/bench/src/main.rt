@@ -1,10 +1,11 @@
 // Makes one call over and over, so that its instructions can be counted: standard input has the case's letter, the pattern of the
 // counters, the length of a batch, and then a byte for each turn. It writes four numbers of the tunnel as the turns left it, or, where
-// datagrams are read or headers written, a sum.
+// datagrams or logs are read or written, a sum.
 mod begin;
 mod counters;
 mod datagrams;
 mod day;
+mod logs;
 mod turns;
 
 use crate::begin::begun;
@@ -12,6 +13,7 @@ use crate::begin::weight;
 use crate::counters::fill;
 use crate::datagrams::datagrams;
 use crate::day::rounds;
+use crate::logs::logs;
 use crate::turns::deadlines;
 use crate::turns::events;
 use crate::turns::looks;
@@ -188,6 +190,13 @@ fn datagram_case(case: u8, input: &[u8]) {
     io::write_all(STDOUT_FILENO, b"\n");
 }
 
+// The cases of a log.
+fn log_case(asked: Asked) {
+    let total = logs(asked.case, asked.pattern, asked.len, asked.turns);
+    io::print_decimal(STDOUT_FILENO, total);
+    io::write_all(STDOUT_FILENO, b"\n");
+}
+
 // The cases of a tunnel.
 fn tunnel_case(asked: Asked) {
     let mut store = [0u64; 1024];
@@ -214,6 +223,7 @@ fn main() {
     let case = asked.case;
     match case {
         b'g' | b'w' => datagram_case(case, &input[..count]),
+        b'a' | b'v' => log_case(asked),
         _ => tunnel_case(asked),
     }
 }

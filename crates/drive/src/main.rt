@@ -7,6 +7,11 @@ use script::line::Line;
 use script::line::admitted;
 use script::line::read;
 use script::line::starts;
+use script::log_line::Log;
+use script::log_line::LogCall;
+use script::log_line::call_log;
+use script::log_line::first_log;
+use script::log_line::put_log;
 use text::gather::Gathered;
 use text::gather::newline;
 use tunnel::answer::Answer;
@@ -26,6 +31,7 @@ struct Console {
 // What the program holds from turn to turn.
 struct Progress {
     tunnel: Tunnel,
+    log: Log,
     console: Console,
 }
 
@@ -91,8 +97,8 @@ fn answer(
 
 // Puts the answer of a line's call.
 fn settle(
+    progress: Progress,
     answered: Answered,
-    console: Console,
     asked: Line,
     verdicts: &[u8],
     bytes: &[u8],
@@ -100,26 +106,56 @@ fn settle(
 ) -> Progress {
     let tunnel = answered.tunnel;
     let reply = answered.answer;
-    let after = answer(console, asked, reply, verdicts, bytes, out);
+    let after = answer(progress.console, asked, reply, verdicts, bytes, out);
     Progress {
         tunnel,
         console: after,
+        ..progress
+    }
+}
+
+// Makes a line's call about the log, whose store stands in a buffer, and puts its answer.
+fn end_log_line(
+    progress: Progress,
+    call: LogCall,
+    line: &[u8],
+    bytes: &[u8],
+    log: &mut [u8; 70000],
+    out: &mut [u8],
+) -> Progress {
+    let console = progress.console;
+    let answered = call_log(progress.log, call, line, bytes, log);
+    let at = make_room(console.written, out);
+    let end = put_log(out, at, call, answered, log);
+    let after = answered.log;
+    Progress {
+        log: after,
+        console: Console {
+            gathered: Gathered::new(),
+            written: end,
+            ..console
+        },
+        ..progress
     }
 }
 
 // Makes the call of the line that was gathered, and puts its answer.
 fn end_line(
     progress: Progress,
-    line: &[u8],
-    bytes: &mut [u8],
-    store: &mut [u64],
-    out: &mut [u8],
+    line: &[u8; 65536],
+    bytes: &mut [u8; 32768],
+    store: &mut [u64; 1024],
+    log: &mut [u8; 70000],
+    out: &mut [u8; 262144],
 ) -> Progress {
     let mut counters = [0u64; 1025];
     let mut kinds = [0u8; 1025];
     let mut verdicts = [0u8; 1025];
     let console = progress.console;
     let asked = gathered_line(console, line, &mut counters, &mut kinds, bytes);
+    if let Line::Log(asked_log) = asked {
+        return end_log_line(progress, asked_log, line, bytes, log, out);
+    }
     let answered = call(
         progress.tunnel,
         asked,
@@ -128,7 +164,7 @@ fn end_line(
         &kinds,
         &mut verdicts,
     );
-    settle(answered, console, asked, &verdicts, bytes, out)
+    settle(progress, answered, asked, &verdicts, bytes, out)
 }
 
 // The console with the bytes up to the next newline.
@@ -144,10 +180,11 @@ fn gather(console: Console, line: &mut [u8], part: &[u8]) -> Console {
 fn take_part(
     mut progress: Progress,
     input: &[u8],
-    line: &mut [u8],
-    bytes: &mut [u8],
-    store: &mut [u64],
-    out: &mut [u8],
+    line: &mut [u8; 65536],
+    bytes: &mut [u8; 32768],
+    store: &mut [u64; 1024],
+    log: &mut [u8; 70000],
+    out: &mut [u8; 262144],
 ) -> Progress {
     let mut at = 0;
     while at < input.len() {
@@ -157,7 +194,7 @@ fn take_part(
             return progress;
         }
         at = end + 1;
-        progress = end_line(progress, line, bytes, store, out);
+        progress = end_line(progress, line, bytes, store, log, out);
     }
     progress
 }
@@ -203,15 +240,16 @@ fn take_input(
     mut progress: Progress,
     came: usize,
     input: &mut [u8],
-    line: &mut [u8],
-    bytes: &mut [u8],
-    store: &mut [u64],
-    out: &mut [u8],
+    line: &mut [u8; 65536],
+    bytes: &mut [u8; 32768],
+    store: &mut [u64; 1024],
+    log: &mut [u8; 70000],
+    out: &mut [u8; 262144],
 ) -> Progress
     requires { ⌜ came ≤ length (now input) ⌝ }
 {
     let n = to_take(progress.console, came, input);
-    progress = take_part(progress, &input[..n], line, bytes, store, out);
+    progress = take_part(progress, &input[..n], line, bytes, store, log, out);
     progress.console = emptied(progress.console, out);
     progress
 }
@@ -221,15 +259,16 @@ fn take_input(
 fn take_all(
     mut progress: Progress,
     input: &mut [u8],
-    line: &mut [u8],
-    bytes: &mut [u8],
-    store: &mut [u64],
-    out: &mut [u8],
+    line: &mut [u8; 65536],
+    bytes: &mut [u8; 32768],
+    store: &mut [u64; 1024],
+    log: &mut [u8; 70000],
+    out: &mut [u8; 262144],
 ) {
     let mut turns = u64::MAX;
     while turns > 0 {
         let came = read_input(input);
-        progress = take_input(progress, came, input, line, bytes, store, out);
+        progress = take_input(progress, came, input, line, bytes, store, log, out);
         if came == 0 {
             return;
         }
@@ -246,7 +285,11 @@ fn fresh(store: &mut [u64]) -> Progress {
         gathered: Gathered::new(),
         written: 0,
     };
-    Progress { tunnel, console }
+    Progress {
+        tunnel,
+        log: first_log(),
+        console,
+    }
 }
 
 fn main() {
@@ -255,6 +298,7 @@ fn main() {
     let mut bytes = [0u8; 32768];
     let mut out = [0u8; 262144];
     let mut store = [0u64; 1024];
+    let mut log = [0u8; 70000];
     let progress = fresh(&mut store);
     take_all(
         progress,
@@ -262,6 +306,7 @@ fn main() {
         &mut line,
         &mut bytes,
         &mut store,
+        &mut log,
         &mut out,
     );
 }

@@ -94,7 +94,8 @@ fn call_receive(
     )
 }
 
-// Makes a line's call. A line that cannot be read is turned down; a split, a datagram and a header ask nothing of the tunnel.
+// Makes a line's call. A line that cannot be read is turned down; a split, a datagram, a header and the log ask nothing of the
+// tunnel.
 pub fn call(
     tunnel: Tunnel,
     line: Line,
@@ -138,18 +139,13 @@ pub fn call(
             first: _,
             len: _,
             at: _,
-        } => return Answered {
-            tunnel,
-            answer: Answer::Done,
-        },
-        Line::Datagram { len: _ } => return Answered {
-            tunnel,
-            answer: Answer::Done,
-        },
-        Line::Header {
+        }
+        | Line::Datagram { len: _ }
+        | Line::Header {
             receiver: _,
             counter: _,
-        } => return Answered {
+        }
+        | Line::Log(_) => return Answered {
             tunnel,
             answer: Answer::Done,
         },

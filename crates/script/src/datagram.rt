@@ -14,7 +14,7 @@ use text::text::put_number;
 use text::text::put_text;
 
 // Puts the number that turns a call down.
-fn put_no(out: &mut [u8], at: usize, number: u8) -> usize {
+pub fn put_no(out: &mut [u8], at: usize, number: u8) -> usize {
     let next = put_text(out, at, b"no");
     put_number(out, next, number as u64)
 }
@@ -75,7 +75,7 @@ pub fn put_datagram(out: &mut [u8], at: usize, len: usize, bytes: &[u8]) -> usiz
 }
 
 // Puts bytes.
-fn put_bytes(out: &mut [u8], at: usize, bytes: &[u8]) -> usize {
+pub fn put_bytes(out: &mut [u8], at: usize, bytes: &[u8]) -> usize {
     let next = put_text(out, at, b"ok bytes ");
     put_hex(out, next, bytes)
 }

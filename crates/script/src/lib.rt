@@ -3,6 +3,8 @@ pub mod answer;
 pub mod call;
 pub mod datagram;
 pub mod line;
+pub mod log_line;
 pub mod messages;
 pub mod name;
 pub mod numbers;
+pub mod reports;

@@ -1,4 +1,5 @@
 // A line of drive: the call's name and its arguments.
+use crate::log_line::LogCall;
 use crate::messages::Messages;
 use crate::messages::read_messages;
 use crate::name::Name;
@@ -8,6 +9,7 @@ use crate::numbers::indices_of;
 use crate::numbers::numbers_of;
 use crate::numbers::read_numbers;
 use crate::numbers::readable;
+use crate::reports::are_reports;
 use text::hex::Hex;
 use text::hex::read_hex;
 use text::word::skip_spaces;
@@ -80,9 +82,35 @@ pub enum Line {
         receiver: u32,
         counter: u64,
     },
+    Log(LogCall),
 }
 
-// The line of a call with its numbers, and with so many messages or bytes where the lists that were lent hold any.
+// The line that gives the log a store of so many bytes, up to 70,000.
+fn store_line(size: u64) -> Line {
+    if size > 70000 {
+        return Line::Unreadable;
+    }
+    Line::Log(LogCall::Store {
+        size: size as usize,
+    })
+}
+
+// The line that walks over the log with lists of so many counts, up to 4,096, and records, up to 2,048.
+fn walk_line(callouts: u64, records: u64) -> Line {
+    if callouts > 4096 {
+        return Line::Unreadable;
+    }
+    if records > 2048 {
+        return Line::Unreadable;
+    }
+    Line::Log(LogCall::Walk {
+        callouts: callouts as usize,
+        records: records as usize,
+    })
+}
+
+// The line of a call with its numbers, and with so many messages or bytes where the lists that were lent hold any; the reports of a
+// callout end at this position of the line.
 fn line_of(name: Name, n: Numbers, held: usize) -> Line {
     let index = (n.first % 4294967296) as u32;
     match name {
@@ -143,6 +171,23 @@ fn line_of(name: Name, n: Numbers, held: usize) -> Line {
             receiver: index,
             counter: n.second,
         },
+        Name::Store => store_line(n.first),
+        Name::Used => Line::Log(LogCall::Used {
+            used: n.first as usize,
+        }),
+        Name::Poke => Line::Log(LogCall::Poke {
+            at: n.first as usize,
+            len: held,
+        }),
+        Name::Peek => Line::Log(LogCall::Peek {
+            at: n.first as usize,
+            len: n.second as usize,
+        }),
+        Name::Append => Line::Log(LogCall::Append {
+            from: n.next,
+            end: held,
+        }),
+        Name::Walk => walk_line(n.first, n.second),
     }
 }
 
@@ -162,8 +207,16 @@ fn read_recv(numbers: Numbers, line: &[u8], counters: &mut [u64], kinds: &mut [u
     line_of(Name::Recv, numbers, messages)
 }
 
-// The line of a datagram: a word of hexadecimal digits, the last of the line, follows the numbers.
-fn read_bytes(numbers: Numbers, line: &[u8], bytes: &mut [u8]) -> Line {
+// The line of a callout: its reports follow the numbers.
+fn read_callout(numbers: Numbers, line: &[u8]) -> Line {
+    if are_reports(line, numbers.next) {
+        return line_of(Name::Append, numbers, line.len());
+    }
+    Line::Unreadable
+}
+
+// The line of a datagram or of bytes for the log: a word of hexadecimal digits, the last of the line, follows the numbers.
+fn read_bytes(name: Name, numbers: Numbers, line: &[u8], bytes: &mut [u8]) -> Line {
     let start = numbers.next;
     let end = word_end(line, start);
     if start >= end {
@@ -175,7 +228,7 @@ fn read_bytes(numbers: Numbers, line: &[u8], bytes: &mut [u8]) -> Line {
     let Hex::Held(len) = read_hex(&line[start..end], bytes) else {
         return Line::Unreadable;
     };
-    line_of(Name::Datagram, numbers, len)
+    line_of(name, numbers, len)
 }
 
 // Reads the arguments of a call.
@@ -195,12 +248,19 @@ fn read_arguments(
         return read_recv(numbers, line, counters, kinds);
     }
     if let Name::Datagram = name {
-        return read_bytes(numbers, line, bytes);
+        return read_bytes(name, numbers, line, bytes);
+    }
+    if let Name::Poke = name {
+        return read_bytes(name, numbers, line, bytes);
+    }
+    if let Name::Append = name {
+        return read_callout(numbers, line);
     }
     whole_line(name, numbers, line)
 }
 
-// Reads a line. The messages of a batch go into the lists of counters and kinds, a datagram into the list of bytes.
+// Reads a line. The messages of a batch go into the lists of counters and kinds, a datagram and bytes for the log into the list of
+// bytes.
 pub fn read(line: &[u8], counters: &mut [u64], kinds: &mut [u8], bytes: &mut [u8]) -> Line {
     let start = skip_spaces(line, 0);
     let end = word_end(line, start);

@@ -20,6 +20,12 @@ pub enum Name {
     Split,
     Datagram,
     Header,
+    Store,
+    Used,
+    Poke,
+    Peek,
+    Append,
+    Walk,
 }
 
 // The name of a handshake's call.
@@ -42,7 +48,30 @@ fn handshake_name(word: &[u8]) -> Name {
     Name::Unknown
 }
 
-// The name of a line about datagrams or of a call about a handshake.
+// The name of a line about the log or of a call about a handshake.
+fn log_name(word: &[u8]) -> Name {
+    if same(word, b"store") {
+        return Name::Store;
+    }
+    if same(word, b"used") {
+        return Name::Used;
+    }
+    if same(word, b"poke") {
+        return Name::Poke;
+    }
+    if same(word, b"peek") {
+        return Name::Peek;
+    }
+    if same(word, b"append") {
+        return Name::Append;
+    }
+    if same(word, b"walk") {
+        return Name::Walk;
+    }
+    handshake_name(word)
+}
+
+// The name of a line about datagrams or the log, or of a call about a handshake.
 fn datagram_name(word: &[u8]) -> Name {
     if same(word, b"datagram") {
         return Name::Datagram;
@@ -50,10 +79,10 @@ fn datagram_name(word: &[u8]) -> Name {
     if same(word, b"header") {
         return Name::Header;
     }
-    handshake_name(word)
+    log_name(word)
 }
 
-// The name of a question, of a line about datagrams or of a call about a handshake.
+// The name of a question, of a line about datagrams or the log, or of a call about a handshake.
 fn question_name(word: &[u8]) -> Name {
     if same(word, b"event") {
         return Name::Event;

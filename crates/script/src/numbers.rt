@@ -33,6 +33,12 @@ pub fn numbers_of(name: Name) -> u64 {
         Name::Split => 4,
         Name::Datagram => 0,
         Name::Header => 2,
+        Name::Store => 1,
+        Name::Used => 1,
+        Name::Poke => 1,
+        Name::Peek => 2,
+        Name::Append => 0,
+        Name::Walk => 2,
     }
 }
 
@@ -56,6 +62,12 @@ pub fn indices_of(name: Name) -> u64 {
         Name::Split => 1,
         Name::Datagram => 0,
         Name::Header => 1,
+        Name::Store => 0,
+        Name::Used => 0,
+        Name::Poke => 0,
+        Name::Peek => 0,
+        Name::Append => 0,
+        Name::Walk => 0,
     }
 }
 

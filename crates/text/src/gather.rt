@@ -24,7 +24,7 @@ pub fn newline(bytes: &[u8], from: usize) -> usize
 }
 
 // Copies a part into a buffer at least as long.
-fn copy(to: &mut [u8], part: &[u8])
+pub fn copy(to: &mut [u8], part: &[u8])
     requires { ⌜ length (now part) ≤ length (now to) ⌝ }
 {
     let mut i = 0;
