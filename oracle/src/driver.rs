@@ -1,5 +1,5 @@
 //! Answers each call of a script with the original tunnel, and adds document 01's checks 1, 2
-//! and 13, the greatest time and document 02's missing report; datagrams are read and headers written beside it.
+//! and 13, the greatest time and document 02's missing report; datagrams are read, headers written and a log kept beside it.
 
 use std::fmt;
 use std::num::NonZeroUsize;
@@ -15,6 +15,7 @@ use crate::datagram::{self, HEADER_LEN, Received};
 use crate::errors::Error;
 use crate::index::Index;
 use crate::keys::{PublicKey, StaticSecret};
+use crate::log::{Log, Report};
 use crate::message::{
     CookieReply, Datagram, HandshakeInitiation, HandshakeResponse, InnerHandshakeInitiation,
     ReplayCheck, TransportData,
@@ -89,6 +90,8 @@ pub enum Answer {
         encrypted: Vec<u8>,
     },
     Bytes(Vec<u8>),
+    Used(u64),
+    Log(Vec<Vec<Report>>),
 }
 
 impl fmt::Display for Answer {
@@ -120,14 +123,23 @@ impl fmt::Display for Answer {
                 encrypted,
             } => write!(f, "ok type 4 {receiver} {counter} {}", Hex(encrypted)),
             Answer::Bytes(bytes) => write!(f, "ok bytes {}", Hex(bytes)),
+            Answer::Used(len) => write!(f, "ok used {len}"),
+            Answer::Log(callouts) => {
+                write!(f, "ok log {}", callouts.len())?;
+                callouts.iter().try_for_each(|callout| {
+                    write!(f, " {}", callout.len())?;
+                    callout.iter().try_for_each(|report| write!(f, " {report}"))
+                })
+            }
         }
     }
 }
 
-/// What a script drives: nothing before the first `new`, then a tunnel.
+/// What a script drives: nothing before the first `new`, then a tunnel and the log, which a further `new` leaves alone.
 pub struct Driver {
     base: Instant,
     held: Option<Held>,
+    log: Log,
 }
 
 /// A tunnel, the greatest time it was given and the counters it was seen to commit.
@@ -150,6 +162,7 @@ impl Driver {
         Self {
             base: Instant::now(),
             held: None,
+            log: Log::at_start(),
         }
     }
 
@@ -171,7 +184,37 @@ impl Driver {
             return self.create(index, keepalive, time);
         }
 
-        self.held.as_mut().ok_or(BAD_ARGUMENT)?.call(call)
+        let held = self.held.as_mut().ok_or(BAD_ARGUMENT)?;
+        match call {
+            Call::Store { .. }
+            | Call::Used { .. }
+            | Call::Poke { .. }
+            | Call::Peek { .. }
+            | Call::Append { .. }
+            | Call::Walk { .. } => self.log_call(call),
+            _ => held.call(call),
+        }
+    }
+
+    /// Answers a call on the log.
+    fn log_call(&mut self, call: Call) -> Result<Answer, Number> {
+        match call {
+            Call::Store { len } => self.log = Log::of_len(len as usize),
+            Call::Used { len } => self.log.set_used(len),
+            Call::Poke { at, bytes } => self.log.poke(at, &bytes)?,
+            Call::Peek { at, len } => {
+                let bytes = self.log.peek(at, len)?;
+                return Ok(Answer::Bytes(bytes.to_vec()));
+            }
+            Call::Append { reports } => return self.log.append(&reports).map(Answer::Used),
+            Call::Walk { counts, records } => {
+                let callouts = self.log.walk(counts as usize, records as usize)?;
+                return Ok(Answer::Log(callouts));
+            }
+            _ => unreachable!("the tunnel answers every other call"),
+        }
+
+        Ok(Answer::Good)
     }
 
     /// Creates a tunnel; turned down, it leaves the one from index 0, no keepalive and time 0.
@@ -190,6 +233,14 @@ impl Driver {
     /// What can be seen of the tunnel, for whoever makes scripts.
     pub fn view(&self) -> Option<View> {
         self.held.as_ref().map(Held::view)
+    }
+
+    /// What can be seen of the log, for whoever makes scripts.
+    pub fn log(&self) -> LogView<'_> {
+        LogView {
+            store: self.log.store(),
+            used: self.log.used(),
+        }
     }
 }
 
@@ -223,7 +274,13 @@ impl Held {
     /// Answers any call but `new`.
     fn call(&mut self, call: Call) -> Result<Answer, Number> {
         match call {
-            Call::New { .. } => unreachable!("the driver answers `new`"),
+            Call::New { .. }
+            | Call::Store { .. }
+            | Call::Used { .. }
+            | Call::Poke { .. }
+            | Call::Peek { .. }
+            | Call::Append { .. }
+            | Call::Walk { .. } => unreachable!("the driver answers `new` and the log's calls"),
             Call::Init { time } => self.init(time),
             Call::Restart { time } => self.restart(time),
             Call::Resp {
@@ -628,6 +685,13 @@ pub struct View {
     pub last_index: u32,
     pub initiations: [Option<u32>; 2],
     pub awaited_cookie: Option<u32>,
+}
+
+/// What can be seen of the log: the store's bytes and the used length, which may lie above their number.
+#[derive(Clone, Copy)]
+pub struct LogView<'a> {
+    pub store: &'a [u8],
+    pub used: u64,
 }
 
 /// What can be seen of a filled slot.

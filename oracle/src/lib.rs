@@ -6,12 +6,15 @@ mod datagram;
 mod datagram_speed;
 mod driver;
 mod errors;
+mod log;
+mod log_speed;
 mod recount;
 mod script;
 mod speed;
 
-pub use driver::{Answer, Driver, Number, View, ViewSession};
+pub use driver::{Answer, Driver, LogView, Number, View, ViewSession};
 pub use keys::PublicKey;
+pub use log::Report;
 pub use script::{Call, Lines, MAX_LINE, Opening, read};
 pub use speed::speed;
 pub use window::Window;

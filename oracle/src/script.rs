@@ -2,8 +2,16 @@
 
 use std::io::{self, BufRead};
 
+use crate::log::Report;
+
 /// The longest line that can be read, in bytes, without its newline.
 pub const MAX_LINE: usize = 65_536;
+/// The longest log store that a line can make.
+const MAX_STORE: u64 = 70_000;
+/// The most counts that a line can lend to the reader of the log.
+const MAX_COUNTS: u64 = 4_096;
+/// The most records that a line can lend room for.
+const MAX_RECORDS: u64 = 2_048;
 
 /// How the opening of a received message came out.
 #[derive(Debug, Clone, Copy, PartialEq, Eq)]
@@ -79,6 +87,27 @@ pub enum Call {
     Header {
         receiver: u32,
         counter: u64,
+    },
+    Store {
+        len: u64,
+    },
+    Used {
+        len: u64,
+    },
+    Poke {
+        at: u64,
+        bytes: Vec<u8>,
+    },
+    Peek {
+        at: u64,
+        len: u64,
+    },
+    Append {
+        reports: Vec<Report>,
+    },
+    Walk {
+        counts: u64,
+        records: u64,
     },
 }
 
@@ -162,6 +191,27 @@ fn read_call(words: &mut Words<'_>) -> Option<Call> {
             receiver: words.number_32()?,
             counter: words.number_64()?,
         },
+        b"store" => Call::Store {
+            len: words.number_up_to(MAX_STORE)?,
+        },
+        b"used" => Call::Used {
+            len: words.number_64()?,
+        },
+        b"poke" => Call::Poke {
+            at: words.number_64()?,
+            bytes: words.hex()?,
+        },
+        b"peek" => Call::Peek {
+            at: words.number_64()?,
+            len: words.number_64()?,
+        },
+        b"append" => Call::Append {
+            reports: read_reports(words)?,
+        },
+        b"walk" => Call::Walk {
+            counts: words.number_up_to(MAX_COUNTS)?,
+            records: words.number_up_to(MAX_RECORDS)?,
+        },
         _ => return None,
     })
 }
@@ -175,6 +225,23 @@ fn read_messages(words: &mut Words<'_>) -> Option<Vec<(u64, Opening)>> {
     }
 
     Some(messages)
+}
+
+/// Reads the reports of a callout, five numbers each, up to the end of the line.
+fn read_reports(words: &mut Words<'_>) -> Option<Vec<Report>> {
+    let mut reports = Vec::new();
+
+    while let Some(word) = words.next() {
+        reports.push(Report {
+            time: number(word, u64::MAX)?,
+            counter: words.number_64()?,
+            session: words.number_64()?,
+            index: words.number_32()?,
+            verdict: words.number_64()?,
+        });
+    }
+
+    Some(reports)
 }
 
 /// The words of a line, separated by spaces, tabs or carriage returns.
@@ -220,6 +287,11 @@ impl<'a> Words<'a> {
     /// Takes any other number.
     fn number_64(&mut self) -> Option<u64> {
         number(self.next()?, u64::MAX)
+    }
+
+    /// Takes a number up to a bound of its own.
+    fn number_up_to(&mut self, bound: u64) -> Option<u64> {
+        number(self.next()?, bound)
     }
 
     /// Takes the letter of an opening.

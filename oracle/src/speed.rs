@@ -16,6 +16,7 @@ use crate::driver::{Number, incoming_initiation};
 use crate::errors::Error;
 use crate::index::Index;
 use crate::keys::{PublicKey, StaticSecret};
+use crate::log_speed::logs;
 use crate::message::{HandshakeResponse, TransportData};
 use crate::session::access::decrypted_batch;
 use crate::session::{DecryptedBatch, Plaintext};
@@ -67,6 +68,9 @@ pub fn speed(input: &[u8]) -> Option<String> {
         return Some(datagrams(case, turns).to_string());
     }
     let turns = turns.len();
+    if matches!(case, b'a' | b'v') {
+        return Some(logs(case, pattern, length, turns).to_string());
+    }
     let mut run = match case {
         b'h' => Run::started(0),
         b's' => Run::established(0),

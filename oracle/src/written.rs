@@ -1,7 +1,8 @@
-//! A call's time, and its line as a script has it; bytes as lines have them.
+//! A call's time, and its line as a script has it; reports and bytes as lines have them.
 
 use std::fmt;
 
+use crate::log::Report;
 use crate::script::{Call, Opening};
 
 impl Call {
@@ -37,7 +38,13 @@ impl Call {
             | Call::Missing { .. }
             | Call::Split { .. }
             | Call::Datagram { .. }
-            | Call::Header { .. } => None,
+            | Call::Header { .. }
+            | Call::Store { .. }
+            | Call::Used { .. }
+            | Call::Poke { .. }
+            | Call::Peek { .. }
+            | Call::Append { .. }
+            | Call::Walk { .. } => None,
         }
     }
 }
@@ -97,6 +104,15 @@ impl fmt::Display for Call {
             } => write!(f, "split {peer} {first} {length} {at}"),
             Call::Datagram { bytes } => write!(f, "datagram {}", Hex(bytes)),
             Call::Header { receiver, counter } => write!(f, "header {receiver} {counter}"),
+            Call::Store { len } => write!(f, "store {len}"),
+            Call::Used { len } => write!(f, "used {len}"),
+            Call::Poke { at, bytes } => write!(f, "poke {at} {}", Hex(bytes)),
+            Call::Peek { at, len } => write!(f, "peek {at} {len}"),
+            Call::Append { reports } => {
+                write!(f, "append")?;
+                reports.iter().try_for_each(|report| write!(f, " {report}"))
+            }
+            Call::Walk { counts, records } => write!(f, "walk {counts} {records}"),
         }
     }
 }
@@ -108,6 +124,20 @@ impl fmt::Display for Opening {
             Opening::Keepalive => "k",
             Opening::Failed => "f",
         })
+    }
+}
+
+impl fmt::Display for Report {
+    fn fmt(&self, f: &mut fmt::Formatter<'_>) -> fmt::Result {
+        let Report {
+            time,
+            counter,
+            session,
+            index,
+            verdict,
+        } = self;
+
+        write!(f, "{time} {counter} {session} {index} {verdict}")
     }
 }
 

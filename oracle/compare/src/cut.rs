@@ -2,7 +2,7 @@
 
 use crate::programs::{first_difference, run_both};
 
-/// Removes lines, then messages of batches, as long as the programs still differ; gives nothing
+/// Removes lines, then messages of batches and reports of callouts, as long as the programs still differ; gives nothing
 /// where they do not differ on the whole script.
 pub(crate) fn cut_down(programs: [&str; 2], script: &[Vec<u8>]) -> Option<Vec<Vec<u8>>> {
     let differs = |lines: &[Vec<u8>]| differs(programs, lines);
@@ -59,7 +59,7 @@ pub(crate) fn shrink<T: Clone>(list: &[T], keeps: &impl Fn(&[T]) -> bool) -> Vec
     }
 }
 
-/// Removes messages of the batch at `at` while the programs still differ.
+/// Removes messages of the batch or reports of the callout at `at` while the programs still differ.
 fn shrink_line(
     lines: Vec<Vec<u8>>,
     at: usize,
@@ -69,12 +69,17 @@ fn shrink_line(
         .split(|byte| *byte == b' ')
         .map(<[u8]>::to_vec)
         .collect();
-    if words[0] != b"recv" || words.len() < 6 {
+    let (front, each) = match &words[0][..] {
+        b"recv" => (4, 2),
+        b"append" => (1, 5),
+        _ => return lines,
+    };
+    if words.len() < front + each {
         return lines;
     }
 
-    let (head, messages) = words.split_at(4);
-    let messages: Vec<&[Vec<u8>]> = messages.chunks(2).collect();
+    let (head, messages) = words.split_at(front);
+    let messages: Vec<&[Vec<u8>]> = messages.chunks(each).collect();
     let with = |messages: &[&[Vec<u8>]]| {
         let mut changed = lines.clone();
         changed[at] = [head, &messages.concat()].concat().join(&b' ');

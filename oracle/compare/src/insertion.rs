@@ -186,6 +186,15 @@ impl Maker {
 fn is_of_tunnel(call: &Call) -> bool {
     !matches!(
         call,
-        Call::New { .. } | Call::Split { .. } | Call::Datagram { .. } | Call::Header { .. }
+        Call::New { .. }
+            | Call::Split { .. }
+            | Call::Datagram { .. }
+            | Call::Header { .. }
+            | Call::Store { .. }
+            | Call::Used { .. }
+            | Call::Poke { .. }
+            | Call::Peek { .. }
+            | Call::Append { .. }
+            | Call::Walk { .. }
     )
 }

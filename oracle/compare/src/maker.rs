@@ -4,6 +4,7 @@ use oracle::{Answer, Call, Driver, View, ViewSession};
 
 use crate::datagram_moves::Datagrams;
 use crate::insertion::Insertion;
+use crate::log_moves::LogMoves;
 use crate::profiles::{self, Profile};
 use crate::random::Random;
 
@@ -39,11 +40,12 @@ pub fn make_script(seed: u64, length: usize) -> Script {
 pub(crate) struct Maker {
     pub(crate) random: Random,
     pub(crate) profile: Profile,
-    driver: Driver,
+    pub(crate) driver: Driver,
     lines: Vec<Vec<u8>>,
     length: usize,
     peers: u32,
     pub(crate) datagrams: Datagrams,
+    pub(crate) log: LogMoves,
     /// The extra wakings, where a pair of scripts is made.
     pub(crate) insertion: Option<Insertion>,
 }
@@ -62,6 +64,7 @@ impl Maker {
             length,
             peers,
             datagrams: Datagrams::new(seed),
+            log: LogMoves::new(seed),
             insertion: None,
         }
     }
@@ -97,12 +100,12 @@ impl Maker {
         self.all_missing();
     }
 
-    /// Whether the script is as long as it should be, its datagrams not counted.
+    /// Whether the script is as long as it should be, its datagrams and the log's lines not counted.
     pub(crate) fn full(&self) -> bool {
-        self.lines.len() - self.datagrams.lines >= self.length
+        self.lines.len() - self.datagrams.lines - self.log.lines >= self.length
     }
 
-    /// Adds a line, now and then a datagram behind it, and gives the oracle's answer to the line, if it is good.
+    /// Adds a line, now and then a datagram or lines of the log behind it, and gives the oracle's answer to the line, if it is good.
     pub(crate) fn ask(&mut self, line: impl Into<Vec<u8>>) -> Option<Answer> {
         if let Some(insertion) = self.insertion.take() {
             return self.ask_both(insertion, &line.into());
@@ -110,6 +113,7 @@ impl Maker {
         let answer = self.ask_driver(line);
 
         self.datagrams_now_and_then();
+        self.log_now_and_then();
         answer
     }
 

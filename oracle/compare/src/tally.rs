@@ -3,7 +3,7 @@
 use std::collections::BTreeMap;
 use std::fmt;
 
-/// Counts of call words, refusal numbers, events, verdicts, and of the types read and the headers written.
+/// Counts of call words, refusal numbers, events, verdicts, of the types read and the headers written, and of the log's callouts and records.
 #[derive(Default)]
 pub struct Tally {
     calls: u64,
@@ -12,6 +12,7 @@ pub struct Tally {
     events: BTreeMap<String, u64>,
     verdicts: BTreeMap<u64, u64>,
     datagrams: BTreeMap<String, u64>,
+    log: BTreeMap<String, u64>,
 }
 
 impl Tally {
@@ -44,9 +45,25 @@ impl Tally {
                 let kind = parts.next().unwrap_or_default().to_string();
                 *self.datagrams.entry(kind).or_default() += 1;
             }
+            (Some("ok"), "append" | "walk") => self.count_log(&word, parts),
             _ => {}
         }
         *self.words.entry(word).or_default() += 1;
+    }
+
+    /// Counts a callout that was appended, or a walk with its callouts and records.
+    fn count_log<'a>(&mut self, word: &str, mut parts: impl Iterator<Item = &'a str>) {
+        if word == "append" {
+            *self.log.entry("appended".to_string()).or_default() += 1;
+            return;
+        }
+        let callouts = parts.nth(1).and_then(|count| count.parse().ok());
+        let callouts: u64 = callouts.unwrap_or(0);
+        let records = (parts.count() as u64 - callouts) / 5;
+
+        *self.log.entry("walked".to_string()).or_default() += 1;
+        *self.log.entry("callouts".to_string()).or_default() += callouts;
+        *self.log.entry("records".to_string()).or_default() += records;
     }
 
     /// The number of lines counted.
@@ -74,7 +91,8 @@ impl fmt::Display for Tally {
         writeln!(f, "refusals:  {}", list(&self.refusals))?;
         writeln!(f, "events:    {}", list(&self.events))?;
         writeln!(f, "verdicts:  {}", list(&self.verdicts))?;
-        write!(f, "datagrams: {}", list(&self.datagrams))
+        writeln!(f, "datagrams: {}", list(&self.datagrams))?;
+        write!(f, "log:       {}", list(&self.log))
     }
 }
 

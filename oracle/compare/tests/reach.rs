@@ -1,8 +1,9 @@
-//! Makes sure that the scripts reach every call, every refusal, every event, every type of datagram and the edges of a young window.
+//! Makes sure that the scripts reach every call, every refusal, every event, every type of datagram, the edges of a young window and
+//! every refusal of the log.
 
 use std::collections::BTreeSet;
 
-use compare::{datagram_scripts, gap_scripts, make_script};
+use compare::{Script, datagram_scripts, gap_scripts, log_scripts, make_script, short_log_scripts};
 use oracle::{Answer, Call, Driver};
 
 /// What a range of seeds has met.
@@ -58,10 +59,10 @@ fn scripts_reach_everything() {
         }
     }
 
-    assert_eq!(met.calls.len(), 16, "{:?}", met.calls);
+    assert_eq!(met.calls.len(), 22, "{:?}", met.calls);
     assert_eq!(
         met.refusals,
-        (1..=16).filter(|number| *number != 14).collect()
+        (1..=19).filter(|number| *number != 14).collect()
     );
     assert_eq!(met.verdicts, BTreeSet::from([0, 7, 9, 10]));
     let events = ["ok est", "ok exp", "ok init", "ok key", "ok none"];
@@ -89,6 +90,83 @@ fn datagram_scripts_reach_every_type_and_refusal() {
     assert_eq!(met.refusals, BTreeSet::from([2, 15, 16]));
     assert_eq!(met.datagrams, types());
     assert!(met.unreadable > 1_000);
+}
+
+/// What log scripts have met by call and answer, each with the most callouts and the most records of a walk.
+fn log_answers(scripts: Vec<(String, Script)>) -> (BTreeSet<String>, usize, usize) {
+    let mut answers = BTreeSet::new();
+    let (mut callouts, mut records) = (0, 0);
+    let mut driver = Driver::new();
+
+    for line in scripts.into_iter().flat_map(|(_, script)| script.lines) {
+        let answer = driver.answer(&line);
+        let call = oracle::read(&line).map_or("unreadable".to_string(), |call| call.to_string());
+        let word = call.split(' ').next().unwrap_or_default();
+        match answer {
+            Ok(Answer::Log(read)) => {
+                answers.insert(format!("{word} ok"));
+                callouts = callouts.max(read.len());
+                records = records.max(read.iter().map(Vec::len).sum());
+            }
+            Ok(_) => drop(answers.insert(format!("{word} ok"))),
+            Err(number) => drop(answers.insert(format!("{word} {number}"))),
+        }
+    }
+
+    (answers, callouts, records)
+}
+
+/// Every answer that a line of the log can have after a tunnel was made.
+const LOG_ANSWERS: [&str; 15] = [
+    "append 1",
+    "append 19",
+    "append 2",
+    "append ok",
+    "peek 2",
+    "peek ok",
+    "poke 2",
+    "poke ok",
+    "store ok",
+    "unreadable 2",
+    "used ok",
+    "walk 17",
+    "walk 18",
+    "walk 2",
+    "walk ok",
+];
+
+#[test]
+fn log_scripts_reach_every_answer_and_a_full_store() {
+    let scripts = log_scripts();
+    let lines: usize = scripts.iter().map(|(_, script)| script.lines.len()).sum();
+    assert!(lines >= 200_000, "{lines}");
+
+    let (answers, callouts, records) = log_answers(scripts);
+    assert!(LOG_ANSWERS.iter().all(|answer| answers.contains(*answer)));
+    assert_eq!((callouts, records), (4_096, 2_047));
+}
+
+#[test]
+fn short_log_scripts_reach_every_answer() {
+    let (answers, _, _) = log_answers(short_log_scripts());
+
+    assert!(LOG_ANSWERS.iter().all(|answer| answers.contains(*answer)));
+}
+
+#[test]
+fn every_log_script_after_the_first_begins_with_a_tunnel_and_a_store() {
+    for scripts in [log_scripts(), short_log_scripts()] {
+        for (name, script) in &scripts[1..] {
+            let front: Vec<_> = script
+                .lines
+                .iter()
+                .take(2)
+                .map(|l| oracle::read(l))
+                .collect();
+            assert!(script.begins_with_new(), "{name}");
+            assert!(matches!(front[1], Some(Call::Store { .. })), "{name}");
+        }
+    }
 }
 
 /// The next counters of the sessions whose missing report was asked for.

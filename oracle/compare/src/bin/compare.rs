@@ -1,11 +1,12 @@
 //! Runs two programs on the same scripts and compares their answers line by line:
-//! compare A B [--seeds FROM..TO] [--manner D] [--exhaustive N] [--datagrams] [--gaps] [--lines M] [--stop] [--no-cut]
+//! compare A B [--seeds FROM..TO] [--manner D] [--exhaustive N] [--datagrams] [--gaps] [--log] [--lines M] [--stop] [--no-cut]
 
 use std::env;
 use std::process::ExitCode;
 
 use compare::{
-    Comparison, Exhaustive, Script, datagram_scripts, gap_scripts, make_script, profile_name,
+    Comparison, Exhaustive, Script, datagram_scripts, gap_scripts, log_scripts, make_script,
+    profile_name,
 };
 
 /// What to compare.
@@ -16,6 +17,7 @@ struct Options {
     exhaustive: u32,
     datagrams: bool,
     gaps: bool,
+    log: bool,
     lines: usize,
     stop: bool,
     cut: bool,
@@ -24,7 +26,7 @@ struct Options {
 fn main() -> ExitCode {
     let Some(options) = options() else {
         eprintln!(
-            "usage: compare A B [--seeds FROM..TO] [--manner D] [--exhaustive N] [--datagrams] [--gaps] [--lines M] [--stop] [--no-cut]"
+            "usage: compare A B [--seeds FROM..TO] [--manner D] [--exhaustive N] [--datagrams] [--gaps] [--log] [--lines M] [--stop] [--no-cut]"
         );
         return ExitCode::from(2);
     };
@@ -38,10 +40,12 @@ fn main() -> ExitCode {
         .map(|(at, script)| (format!("word {at}"), script));
     let datagrams = options.datagrams.then(datagram_scripts).unwrap_or_default();
     let gaps = options.gaps.then(gap_scripts).unwrap_or_default();
+    let log = options.log.then(log_scripts).unwrap_or_default();
     let [a, b] = &options.programs;
     let mut comparison = Comparison::new([a, b], options.stop, options.cut);
 
-    comparison.go_through(seeds.chain(words).chain(datagrams).chain(gaps));
+    let fixed = datagrams.into_iter().chain(gaps).chain(log);
+    comparison.go_through(seeds.chain(words).chain(fixed));
     comparison.report();
 
     ExitCode::from(u8::from(comparison.differences() > 0))
@@ -64,6 +68,7 @@ fn options() -> Option<Options> {
         exhaustive: 0,
         datagrams: false,
         gaps: false,
+        log: false,
         lines: 150,
         stop: false,
         cut: true,
@@ -88,6 +93,10 @@ fn options() -> Option<Options> {
             }
             "--gaps" => {
                 options.gaps = true;
+                chosen = true;
+            }
+            "--log" => {
+                options.log = true;
                 chosen = true;
             }
             "--manner" => options.manner = Some(arguments.next()?.parse().ok()?),

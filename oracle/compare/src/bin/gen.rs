@@ -1,10 +1,11 @@
-//! Writes the script of a seed, or all datagram or gap scripts one after another: gen SEED [LINES] | gen --datagrams | gen --gaps
+//! Writes the script of a seed, or all datagram, gap or log scripts one after another, or the short log scripts:
+//! gen SEED [LINES] | gen --datagrams | gen --gaps | gen --log | gen --short-log
 
 use std::env;
 use std::io::{self, BufWriter, Write};
 use std::process;
 
-use compare::{Script, datagram_scripts, gap_scripts, make_script};
+use compare::{Script, datagram_scripts, gap_scripts, log_scripts, make_script, short_log_scripts};
 
 /// The length of a script where none is given.
 const LINES: usize = 150;
@@ -12,7 +13,9 @@ const LINES: usize = 150;
 fn main() -> io::Result<()> {
     let arguments: Vec<String> = env::args().skip(1).collect();
     let Some(lines) = lines(&arguments) else {
-        eprintln!("usage: gen SEED [LINES] | gen --datagrams | gen --gaps");
+        eprintln!(
+            "usage: gen SEED [LINES] | gen --datagrams | gen --gaps | gen --log | gen --short-log"
+        );
         process::exit(2);
     };
 
@@ -30,6 +33,8 @@ fn lines(arguments: &[String]) -> Option<Vec<Vec<u8>>> {
     match arguments {
         [name] if name == "--datagrams" => Some(all_lines(datagram_scripts())),
         [name] if name == "--gaps" => Some(all_lines(gap_scripts())),
+        [name] if name == "--log" => Some(all_lines(log_scripts())),
+        [name] if name == "--short-log" => Some(all_lines(short_log_scripts())),
         [seed] => Some(make_script(seed.parse().ok()?, LINES).lines),
         [seed, lines] => Some(make_script(seed.parse().ok()?, lines.parse().ok()?).lines),
         _ => None,
