@@ -3,7 +3,7 @@
 use mathlib.Core.Path.{_≡_, refl, ap, sym, _∙_}
 use mathlib.Core.Bool.{Bool, true, false, _||_}
 use mathlib.Core.List.{List, [], _∷_, _++_, append-nil}
-use Prim.Native.Nat.{ℕ, suc, _+_, _-_, _*_, _%_, _≤_, _<_}
+use Prim.Native.Nat.{ℕ, suc, _+_, _-_, _*_, _≤_, _<_}
 use native.Mathlib.Numerals.{add-one}
 use native.Mathlib.Omega.{arith}
 use lib.Dec.{ltb, eqb}
@@ -22,6 +22,7 @@ use Rattle.sessions.specs.declared.session.Session.{Session}
 use Rattle.sessions.specs.declared.sessions.Found.{Found}
 use Rattle.sessions.specs.declared.sessions.Found.the-variants.{Nothing, Got}
 use Rattle.sessions.specs.declared.sessions.Sessions.{Sessions}
+use Rattle.sessions.specs.Index.{slotOf}
 use Rattle.sessions.specs.Store.{slotWords, putSlot, Leaves}
 use Rattle.sessions.specs.Cases.{caseFound}
 use Rattle.sessions.specs.Batch.{known, fits, finishAll, receivingSession, receive, Batched, LeavesBatch, Message, finishReceivePacketData, finishAt}
@@ -182,19 +183,19 @@ module _ (s : Sessions) (store : List ℕ) (index id now : ℕ) (counters kinds 
       none-receives q = rw (eq-eqb (length store) 1024 l, ← e, p, ← g, q) (record { out = refl; words = refl; list = refl })
 
       -- the session's slot lent on to the loop
-      pub one-receives : (x : Session) (start end : ℕ) (progress : Progress) (last given : List ℕ)
-          → found ≡ Got x → start ≡ 128 * (x .«receiving_index» % 8) → end ≡ start + 128
+      pub one-receives : (x : Session) (slot start end : ℕ) (progress : Progress) (last given : List ℕ)
+          → found ≡ Got x → slot ≡ slotOf (x .«receiving_index») → start ≡ 128 * slot → end ≡ start + 128
           → LeavesBatch (finishAll (take (end - start) (drop start store)) (record { next = x .next; accepted = false; «data» = false }) counters kinds) progress last given
           → length last ≡ length (take (end - start) (drop start store))
           → Receives (Judged (withNext (withReceivedData x (x .«received_data» || progress .«data»)) (progress .next)) progress)
           (putMid start (end - start) store last) given
       unfolding receive caseFound choose
-      one-receives x start end progress last given q b d f same =
-          let part : take (end - start) (drop start store) ≡ slotWords store (x .«receiving_index» % 8) = part-is store (x .«receiving_index» % 8) start end b d in
-          let long-last : length last ≡ 128 = same ∙ ap length part ∙ slot-long store (x .«receiving_index» % 8) l (omega arith) in
-          rw (eq-eqb (length store) 1024 l, ← e, p, ← g, q)
+      one-receives x slot start end progress last given q k b d f same =
+          let part : take (end - start) (drop start store) ≡ slotWords store slot = part-is store slot start end b d in
+          let long-last : length last ≡ 128 = same ∙ ap length part ∙ slot-long store slot l (omega arith) in
+          rw (eq-eqb (length store) 1024 l, ← e, p, ← g, q, ← k)
           (record {
             out = rw (f .out, part);
-            words = part-put store last (x .«receiving_index» % 8) start end long-last b d ∙ ap (putSlot store (x .«receiving_index» % 8)) (f .words ∙ rw part);
+            words = part-put store last slot start end long-last b d ∙ ap (putSlot store slot) (f .words ∙ rw part);
             list = f .list ∙ rw part;
           })

@@ -80,8 +80,8 @@ module _ (words : List ℕ) where
         omega (arith, missing-rest next, ap (sum (λ k. bitAt words (next - 8192 + k))) size, ones-cycled words long fits (next - 8192), counted .out)
 
     -- the ones of the words before the next counter's own and of a part of its own
-    module _ (next word n m : ℕ) (h : next < 8192) (w : word ≡ next / 64) (counted : Counted (take (word - 0) (drop 0 words)) n)
-        (part : m ≡ sum (bit (getD words word 0)) (next % 64)) where
+    module _ (next word place n m : ℕ) (h : next < 8192) (w : word ≡ next / 64) (p : place ≡ next % 64)
+        (counted : Counted (take (word - 0) (drop 0 words)) n) (part : m ≡ sum (bit (getD words word 0)) place) where
       pub committed-sum : n + m ≡ sum (bitAt words) next
       unfolding bitAt
       committed-sum =
@@ -90,8 +90,7 @@ module _ (words : List ℕ) where
             arith,
             counted .out,
             ap (λ (x : ℕ). onesOf (take x words)) size,
-            ap (λ (x : ℕ). sum (bit (getD words x 0)) (next % 64)) w,
-            part,
+            part ∙ ap (sum (bit (getD words word 0))) p ∙ ap (λ (x : ℕ). sum (bit (getD words x 0)) (next % 64)) w,
             ones-before words long fits next h,
           )
 

@@ -4,6 +4,7 @@ use mathlib.Core.Path.{_≡_, ap, _∙_, refl}
 use mathlib.Core.Bool.{false, Bool, true}
 use mathlib.Core.List.{List, [], _∷_}
 use Prim.Native.Nat.{ℕ, _+_, _-_, _*_, _%_, _^_}
+use lib.Dec.{eqb}
 use lib.ListN.{length, take, drop, set}
 use Rattle.base.specs.Choice.{choose}
 use Rattle.base.proofs.Choice.{yes-eq}
@@ -22,7 +23,7 @@ use Rattle.sessions.specs.declared.sessions.Selected.the-variants.{Unset
 use Rattle.sessions.specs.declared.sessions.Missing.the-variants.{Refused, Count}
 use Rattle.sessions.specs.declared.sessions.Sessions.{Sessions}
 use Rattle.sessions.specs.declared.sessions.Expired.{Expired}
-use Rattle.sessions.specs.Sessions.{expiring, ring, withSlots, withCurrent, withLastIndex, withInserted, slotAt, emptySlots, newSessions, get, put, inCurrentSlot, indexAfter, nextIndex, inserting, insert, isIndex, clear, emptied, expiredSlot, discard, expireSlot, expire, missing}
+use Rattle.sessions.specs.Sessions.{expiring, ring, withSlots, withCurrent, withLastIndex, withInserted, slotAt, emptySlots, newSessions, inSlotOf, get, put, currentOf, inCurrentSlot, indexAfter, nextIndex, inserting, insert, isIndex, clear, emptied, expiredSlot, discard, expireSlot, expire, missing}
 use Rattle.sessions.specs.Cases.{caseFound}
 
 -- an empty slot's record, made from a new session
@@ -30,15 +31,19 @@ pub empty-is : (s : Session) → s ≡ newSession 0 0 Initiator 0 → withFilled
 unfolding emptySession
 empty-is s e = rw e
 
+-- a slot compared with the slot of an index
+pub slot-tested : (index slot k : ℕ) → k ≡ slotOf index → eqb k slot ≡ eqb (slotOf index) slot
+slot-tested index slot k e = rw e
+
 -- the early look at a part of the store
-pub looked : (s : Session) (store : List ℕ) (receiver counter start end r : ℕ) → length store ≡ 1024 → receiver ≡ s .«receiving_index»
-    → r ≡ willAccept (take (end - start) (drop start store)) (s .next) counter → start ≡ 128 * (receiver % 8) → end ≡ start + 128
+pub looked : (s : Session) (store : List ℕ) (receiver counter slot start end r : ℕ) → length store ≡ 1024 → receiver ≡ s .«receiving_index»
+    → r ≡ willAccept (take (end - start) (drop start store)) (s .next) counter → slot ≡ slotOf receiver → start ≡ 128 * slot → end ≡ start + 128
     → r ≡ willReceive s store receiver counter
 unfolding willReceive
-looked s store receiver counter start end r l i e b f =
+looked s store receiver counter slot start end r l i e k b f =
     yes-eq (length store) 1024 r (choose _ _ 6) 2 l
     (yes-eq receiver (s .«receiving_index») r (willAccept (slotWords store (slotOf receiver)) (s .next) counter) 6 i
-    (e ∙ ap (λ (words : List ℕ). willAccept words (s .next) counter) (part-is store (receiver % 8) start end b f)))
+    (e ∙ ap (λ (words : List ℕ). willAccept words (s .next) counter) (rw (← k) (part-is store slot start end b f))))
 
 -- eight empty slots
 pub new-is : (e : Session) (index : ℕ) → e ≡ emptySession
@@ -50,6 +55,27 @@ module _ (s : Sessions) where
   pub emptied-is : (e : Session) (slot : ℕ) → e ≡ emptySession → withSlots s (set (s .slots) slot e) ≡ emptied s slot
   unfolding emptied
   emptied-is e slot p = rw p
+
+  -- the record of the slot that an index has
+  module _ (index slot : ℕ) (k : slot ≡ slotOf index) where
+    pub in-slot : slotAt s slot .filled ≡ true → Got (slotAt s slot) ≡ inSlotOf s index
+    unfolding inSlotOf choose
+    in-slot f = rw (← k, f)
+
+    pub not-in-slot : slotAt s slot .filled ≡ false → Nothing ≡ inSlotOf s index
+    unfolding inSlotOf choose
+    not-in-slot f = rw (← k, f)
+
+  -- a session put into its slot
+  pub put-is : (x : Session) (slot : ℕ) → slot ≡ slotOf (x .«receiving_index») → withSlots s (set (s .slots) slot x) ≡ put s x
+  unfolding put
+  put-is x slot k = rw k
+
+  -- two slots compared, the current session's and that of an index
+  pub same-slot : (index : ℕ) (found : Found) (x : Session) (a b : ℕ) → found ≡ currentOf s → found ≡ Got x
+      → a ≡ slotOf (x .«receiving_index») → b ≡ slotOf index → eqb a b ≡ inCurrentSlot s index
+  unfolding inCurrentSlot caseFound
+  same-slot index found x a b e p k l = rw (← e, p, k, l)
 
   -- one number taken, or two
   module _ (first : ℕ) (f : Bool) (one : first ≡ wrappingIncrement (s .«last_index»)) (at : f ≡ inCurrentSlot s first) where
@@ -83,11 +109,11 @@ module _ (s : Sessions) where
       not-reported index = rw (ne-eqb (length store) 1024 h)
 
     module _ (l : length store ≡ 1024) where
-      pub inserted : (x : Session) (left : List ℕ) (last : Sessions) (count : ℕ)
-          → left ≡ putSlot store (x .«receiving_index» % 8) (zeros 128) → last ≡ put s (withId x (s .inserted)) → count ≡ (s .inserted + 1) % 2 ^ 64
+      pub inserted : (x : Session) (slot : ℕ) (left : List ℕ) (last : Sessions) (count : ℕ) → slot ≡ slotOf (x .«receiving_index»)
+          → left ≡ putSlot store slot (zeros 128) → last ≡ put s (withId x (s .inserted)) → count ≡ (s .inserted + 1) % 2 ^ 64
           → Leaves (withInserted last count) (insert s store x .sessions) left (insert s store x .store)
       unfolding insert inserting choose
-      inserted x left last count w p n = rw (eq-eqb (length store) 1024 l) (record { out = rw (p, n); words = w })
+      inserted x slot left last count k w p n = rw (eq-eqb (length store) 1024 l) (record { out = rw (p, n); words = rw (← k) w })
 
       pub cleared : (e : Session) (left : List ℕ) → left ≡ zeros (length store) → e ≡ emptySession
           → Leaves (ring (e ∷ e ∷ e ∷ e ∷ e ∷ e ∷ e ∷ e ∷ []) Unset (s .«last_index») (s .inserted)) (clear s store .sessions) left (clear s store .store)
@@ -98,12 +124,12 @@ module _ (s : Sessions) where
       unfolding missing caseFound choose
       not-found index found e p = rw (eq-eqb (length store) 1024 l, ← e, p)
 
-      pub reported : (index : ℕ) (found : Found) (x : Session) (start end n : ℕ) → found ≡ get s index → found ≡ Got x
-          → n ≡ missingOf (take (end - start) (drop start store)) (x .next) → start ≡ 128 * (x .«receiving_index» % 8) → end ≡ start + 128
+      pub reported : (index : ℕ) (found : Found) (x : Session) (slot start end n : ℕ) → found ≡ get s index → found ≡ Got x
+          → n ≡ missingOf (take (end - start) (drop start store)) (x .next) → slot ≡ slotOf (x .«receiving_index») → start ≡ 128 * slot → end ≡ start + 128
           → Count n ≡ missing s store index
       unfolding missing caseFound choose
-      reported index found x start end n e p m b f =
-          rw (eq-eqb (length store) 1024 l, ← e, p) (ap Count (m ∙ ap (λ (words : List ℕ). missingOf words (x .next)) (part-is store (x .«receiving_index» % 8) start end b f)))
+      reported index found x slot start end n e p m k b f =
+          rw (eq-eqb (length store) 1024 l, ← e, p, ← k) (ap Count (m ∙ ap (λ (words : List ℕ). missingOf words (x .next)) (part-is store slot start end b f)))
 
 -- a session discarded from a slot
 module _ (e : Expired) (slot : ℕ) (f : Bool) (rest : Sessions) (p : rest ≡ emptied (e .sessions) slot)

@@ -1,4 +1,5 @@
 // A batch of received messages, over lists that the caller lends: a counter and a kind for each, and room for its verdict.
+use crate::index::slot_of;
 use crate::session::Session;
 use crate::sessions::Found;
 use crate::sessions::Sessions;
@@ -207,7 +208,7 @@ impl Sessions {
         let Found::Got(session) = self.receiving_session(index, id, now) else {
             return Received::Rejected(12);
         };
-        let start = 128 * (session.receiving_index % 8) as usize;
+        let start = 128 * slot_of(session.receiving_index);
         let end = start + 128;
         let before = Progress {
             next: session.next,

@@ -1,4 +1,5 @@
 // Number 14: whether the sessions are such as the calls leave behind, as far as they are looked at. Empty slots are not.
+use crate::index::slot_of;
 use crate::session::REJECT_AFTER_MESSAGES;
 use crate::session::Session;
 use crate::sessions::Sessions;
@@ -19,7 +20,7 @@ fn slot_holds(session: Session, slot: usize, greatest: u64) -> bool
         if session.next > REJECT_AFTER_MESSAGES {
             return false;
         }
-        return (session.receiving_index % 8) as usize == slot;
+        return slot_of(session.receiving_index) == slot;
     }
     true
 }

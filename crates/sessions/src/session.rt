@@ -1,5 +1,6 @@
 // One session, without its keys and without its window's bitmap. Times are nanoseconds.
 
+use crate::index::slot_of;
 ghost use mathlib.Core.Path.{_≡_};
 ghost use Prim.Native.Nat.{_≤_};
 ghost use Rattle.sessions.specs.Session.{timeLimit, dueBy, least, earlier, newSession, emptySession, rekeyAfterTimeOnSend, rejectAfterTimeOnReceive, expiresAt, expiredAt, shouldUseAt, rekeyAfterMessagesReached, sendingCounterExhausted, preparePacketData, reserveCounters, willReceive};
@@ -234,7 +235,7 @@ impl Session {
         if receiver != self.receiving_index {
             return 6;
         }
-        let start = 128 * (receiver % 8) as usize;
+        let start = 128 * slot_of(receiver);
         let end = start + 128;
         window::will_accept(&store[start..end], self.next, counter)
     }

@@ -1,4 +1,5 @@
 // A ring of recent sessions, each in the slot of its local index modulo 8.
+use crate::index::slot_of;
 use crate::index::wrapping_increment;
 use crate::session::Role;
 use crate::session::Session;
@@ -95,7 +96,8 @@ impl Sessions {
     pub fn in_slot_of(self, index: u32) -> Found
         ensures { λ r. ⌜ r ≡ inSlotOf self index ⌝ }
     {
-        let session = self.slots[(index % 8) as usize];
+        let slot = slot_of(index);
+        let session = self.slots[slot];
         if session.filled {
             return Found::Got(session);
         }
@@ -119,7 +121,7 @@ impl Sessions {
     pub fn put(mut self, session: Session) -> Sessions
         ensures { λ r. ⌜ r ≡ put self session ⌝ }
     {
-        let slot = (session.receiving_index % 8) as usize;
+        let slot = slot_of(session.receiving_index);
         self.slots[slot] = session;
         self
     }
@@ -142,7 +144,7 @@ impl Sessions {
         let Found::Got(session) = self.current() else {
             return false;
         };
-        session.receiving_index % 8 == index % 8
+        slot_of(session.receiving_index) == slot_of(index)
     }
 
     // Allocates a local index for a new session. It skips the current session's slot, so that it cannot be overwritten.
@@ -176,7 +178,7 @@ impl Sessions {
         if store.len() != 1024 {
             return self;
         }
-        let slot = (session.receiving_index % 8) as usize;
+        let slot = slot_of(session.receiving_index);
         zero_slot(store, slot);
         let sessions = self.put(Session {
             id: self.inserted,
@@ -356,7 +358,7 @@ impl Sessions {
         let Found::Got(session) = self.get(index) else {
             return Missing::Refused(12);
         };
-        let start = 128 * (session.receiving_index % 8) as usize;
+        let start = 128 * slot_of(session.receiving_index);
         let end = start + 128;
         Missing::Count(missing_of(&store[start..end], session.next))
     }

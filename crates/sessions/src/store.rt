@@ -1,6 +1,6 @@
 // The store of the windows' words, which the caller lends: 1,024 words, of which slot k has the 128 from 128 * k on.
 ghost use mathlib.Core.Path.{_≡_};
-ghost use Prim.Native.Nat.{_<_, _≤_};
+ghost use Prim.Native.Nat.{_/_, _%_, _<_, _≤_};
 ghost use lib.Count.{ones};
 ghost use lib.ListN.{length};
 ghost use Rattle.base.specs.Bits.{bit};
@@ -60,13 +60,28 @@ fn ones_below(word: u64, place: u64) -> u64
     ones_of(word & mask)
 }
 
+// The number of words that so many bits fill.
+fn full_words(bits: u64) -> usize
+    ensures { λ r. ⌜ r ≡ bits / 64 ⌝ }
+{
+    (bits >> 6) as usize
+}
+
+// The number of bits that are left beyond the words that so many fill.
+fn bits_beyond(bits: u64) -> u64
+    ensures { λ r. ⌜ r ≡ bits % 64 ⌝ }
+{
+    bits & 63
+}
+
 // The number of committed counters below `next`, which is below 8,192: the ones of the whole words before its own, and those before it in its own.
 fn committed_below(words: &[u64], next: u64) -> u64
     requires { ⌜ (length (now words) ≡ 128) × (next < 8192) ⌝ }
     ensures { λ r. ⌜ (r ≡ sum (bitAt (now (words .entry))) next) × (r ≤ next) ⌝ }
 {
-    let word = (next / 64) as usize;
-    count_ones(&words[0..word]) + ones_below(words[word], next % 64)
+    let word = full_words(next);
+    let place = bits_beyond(next);
+    count_ones(&words[0..word]) + ones_below(words[word], place)
 }
 
 // The number of a window's counters that are not committed: of the last 8,192 below `next`, or of all where there are fewer.

@@ -2,7 +2,7 @@
 -- Assumes nothing.
 use mathlib.Core.Path.{_≡_}
 use mathlib.Core.Bool.{Bool, true, false}
-use Prim.Native.Nat.{ℕ, _+_, _-_, _*_, _≤_, _<_}
+use Prim.Native.Nat.{ℕ, _+_, _-_, _*_, _%_, _≤_}
 use native.Mathlib.Omega.{arith}
 use borrow.Author.Tests.{eq-eqb, ne-eqb}
 use Rattle.base.specs.Choice.{choose}
@@ -84,21 +84,17 @@ module _ (h : Handshake) (now : ℕ) (flag : Bool) (at : Time) (a : at ≡ cooki
   unfolding expireCookie choose
   cookie-kept n = rw (← a, ← f, n)
 
--- a place of the ring
-pub place-small : (place head offset : ℕ) → place ≡ placeOf head offset → place < 16
-unfolding placeOf
-place-small place head offset p = omega arith
-
-module _ (r ring : RingBuffer) (event : Event) (place : ℕ) (p : place ≡ placeOf (r .head) (r .len)) (q : ring ≡ storeAt r place event) where
-  pub pushed-full : (first : ℕ) → r .len ≡ 16 → first ≡ placeOf (r .head) 1 → ringOf (ring .slots) first (ring .len) ≡ pushBack r event
-  unfolding pushBack storeAt choose
+-- an event appended, and the oldest removed
+module _ (r ring : RingBuffer) (event : Event) (place : ℕ) (p : place ≡ (r .head + r .len) % 16) (q : ring ≡ storeAt r place event) where
+  pub pushed-full : (first : ℕ) → r .len ≡ 16 → first ≡ (r .head + 1) % 16 → ringOf (ring .slots) first (ring .len) ≡ pushBack r event
+  unfolding pushBack storeAt placeOf choose
   pushed-full first h f = rw (eq-eqb (r .len) 16 h, ← p, ← f, q)
 
   pub pushed-more : (r .len ≡ 16 → ⊥) → ringOf (ring .slots) (ring .head) (r .len + 1) ≡ pushBack r event
-  unfolding pushBack storeAt choose
+  unfolding pushBack storeAt placeOf choose
   pushed-more h = rw (ne-eqb (r .len) 16 h, ← p, q)
 
-pub popped-one : (r ring : RingBuffer) (first : ℕ) → (r .len ≡ 0 → ⊥) → ring ≡ storeAt r (r .head) Empty → first ≡ placeOf (r .head) 1
+pub popped-one : (r ring : RingBuffer) (first : ℕ) → (r .len ≡ 0 → ⊥) → ring ≡ storeAt r (r .head) Empty → first ≡ (r .head + 1) % 16
     → record { events = ringOf (ring .slots) first (r .len - 1); event = eventAt (r .slots) (r .head) } ≡ popFront r
-unfolding popFront choose
+unfolding popFront placeOf choose
 popped-one r ring first h p f = rw (ne-eqb (r .len) 0 h, ← f, ← p)

@@ -2,12 +2,12 @@
 -- Assumes nothing.
 use mathlib.Core.Path.{_≡_, refl, sym, _∙_}
 use mathlib.Core.Bool.{Bool, true, false}
-use Prim.Native.Nat.{ℕ, suc, _+_, _-_, _≤_, _<_}
+use Prim.Native.Nat.{ℕ, suc, _+_, _-_, _%_, _≤_, _<_}
 use native.Mathlib.Nat.{add-zero}
 use native.Mathlib.Omega.{arith}
 use Rattle.base.specs.Choice.{choose}
 use Rattle.tunnel.specs.Damage.{eventHolds, queueHolds}
-use Rattle.tunnel.specs.RingBuffer.{placeOf, eventAt, RingWithin, eventsFrom, queued}
+use Rattle.tunnel.specs.RingBuffer.{eventAt, RingWithin, eventsFrom, queued}
 use Rattle.tunnel.specs.declared.ring_buffer.RingBuffer.{RingBuffer}
 
 -- a ring without an event holds
@@ -35,9 +35,9 @@ module _ (r : RingBuffer) (greatest : ℕ) where
         let e : r .len - i ≡ 0 = omega arith in
         sym (y .left ∙ rw e)
 
-    module _ (place : ℕ) (f : Bool) (h : i < r .len) (at : place ≡ placeOf (r .head) i) (is : f ≡ eventHolds (eventAt (r .slots) place) greatest) where
+    module _ (place : ℕ) (f : Bool) (h : i < r .len) (at : place ≡ (r .head + i) % 16) (is : f ≡ eventHolds (eventAt (r .slots) place) greatest) where
       queue-step : queueHolds (queued r) greatest ≡ choose f (queueHolds (eventsFrom (r .slots) (r .head + (i + 1)) (r .len - (i + 1))) greatest) false
-      unfolding queueHolds eventsFrom placeOf
+      unfolding queueHolds eventsFrom
       queue-step =
           let e : r .len - i ≡ suc (r .len - (i + 1)) = omega arith in
           let n : suc (r .head + i) ≡ r .head + (i + 1) = omega arith in

@@ -1,8 +1,8 @@
 // A queue of the newest sixteen events.
 use crate::event::Event;
 ghost use mathlib.Core.Path.{_≡_};
-ghost use Prim.Native.Nat.{_≤_, _<_};
-ghost use Rattle.tunnel.specs.RingBuffer.{RingWithin, placeOf, newRing, ringIsEmpty, storeAt, pushBack, popFront, QueueOfNewest};
+ghost use Prim.Native.Nat.{_+_, _%_, _≤_, _<_};
+ghost use Rattle.tunnel.specs.RingBuffer.{RingWithin, newRing, ringIsEmpty, storeAt, pushBack, popFront, QueueOfNewest};
 
 // One place of the ring.
 pub struct Slot {
@@ -25,9 +25,9 @@ pub struct Popped {
 // The place at an offset from the head.
 pub(crate) fn place_of(head: usize, offset: usize) -> usize
     requires { ⌜ (head ≤ 15) × (offset ≤ 16) ⌝ }
-    ensures { λ r. ⌜ r ≡ placeOf head offset ⌝ }
+    ensures { λ r. ⌜ r ≡ (head + offset) % 16 ⌝ }
 {
-    (head + offset) % 16
+    (head + offset) & 15
 }
 
 impl RingBuffer {

@@ -7,7 +7,7 @@ use Prim.Native.Nat.{ℕ, _+_, _-_, _*_, _/_, _%_, _^_, _≤_, _<_, max}
 use native.Mathlib.Nat.{one-mul, add-zero, sub-self}
 use native.Mathlib.Omega.{arith}
 use lib.ListN.{length, getD, set}
-use lib.Bits.{bitAnd, bitOr}
+use lib.Bits.{bitAnd, bitOr, and-mask}
 use lib.Dec.{eqb}
 use lib.Pow.{shl-exact}
 use Rattle.base.specs.Bits.{bit}
@@ -31,9 +31,9 @@ module _ (ws : List ℕ) (c word place : ℕ) (w : word ≡ wordOf c) (p : place
   unfolding clearBit
   bit-cleared = rw (w, p, shift (c % 64) (omega arith))
 
-  pub bit-checked : eqb (getD ws word 0 / 2 ^ place % 2) 1 ≡ checkBit ws c
+  pub bit-checked : eqb (bitAnd (getD ws word 0 / 2 ^ place) 1) 1 ≡ checkBit ws c
   unfolding checkBit bitAt bit
-  bit-checked = rw (w, p)
+  bit-checked = rw (w, p) (ap (λ (b : ℕ). eqb b 1) (and-mask (getD ws (wordOf c) 0 / 2 ^ bitOf c) 1))
 
 -- a run of counters cleared up to i, and from there on
 run-joined : (ws now last : List ℕ) (from i to : ℕ) → from ≤ i → i ≤ to
@@ -83,10 +83,11 @@ module _ (ws : List ℕ) (next c : ℕ) (near : c - next < 8192) where
   unfolding advance
   skipped-one last e = no-le 8192 (c - next) _ _ _ near e
 
-  pub skipped-three : (edge rest : ℕ) (one two three : List ℕ) → next ≤ edge → edge ≤ rest → rest ≤ c
+  pub skipped-three : (edge rest : ℕ) (one two three : List ℕ) → next ≤ c → c < 18446744073709543423 → edge ≡ (next + 63) / 64 * 64 % 2 ^ 64
+      → edge ≤ rest → rest ≤ c
       → one ≡ clears ws next (edge - next) → two ≡ clears one edge (rest - edge) → three ≡ clears two rest (c - rest) → three ≡ advance ws next c
-  skipped-three edge rest one two three h l m e f g =
-      skipped-one three (run-joined ws two three next rest c (omega arith) m (run-joined ws one two next edge rest h l e f) g)
+  skipped-three edge rest one two three n b h l m e f g =
+      skipped-one three (run-joined ws two three next rest c (omega arith) m (run-joined ws one two next edge rest (omega arith) l e f) g)
 
 pub skipped-all : (ws : List ℕ) (next c : ℕ) (last : List ℕ) → 8192 ≤ c - next → last ≡ zeros 128 → last ≡ advance ws next c
 unfolding advance

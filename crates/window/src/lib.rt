@@ -2,17 +2,20 @@
 // The caller keeps `next`, one past the highest committed counter.
 ghost use mathlib.Core.Path.{_≡_};
 ghost use mathlib.Core.List.{List, []};
-ghost use Prim.Native.Nat.{ℕ, _-_, _≤_, _<_, _%_};
+ghost use Prim.Native.Nat.{ℕ, _+_, _-_, _*_, _/_, _%_, _^_, _≤_, _<_};
 ghost use lib.ListN.{length};
 ghost use Rattle.base.specs.Lists.{zeros};
 ghost use Rattle.window.specs.History.{Represents, JudgedLaw, StandingLaw, WindowLaw};
-ghost use Rattle.window.specs.Window.{wordOf, bitOf, setBit, clearBit, checkBit, clears, advance, isInvalid, willAccept, Marks, ClearedWords};
+ghost use Rattle.window.specs.Window.{setBit, clearBit, checkBit, clears, advance, isInvalid, willAccept, Marks, ClearedWords};
 
 // The exclusive limit of counters, which leaves room for the window's arithmetic.
 pub const REJECT_AFTER_MESSAGES: u64 = 18446744073709543423;
 
 // The bits of a word.
 const WORD_SIZE: u64 = 64;
+
+// The exponent of two that gives `WORD_SIZE`.
+const WORD_SHIFT: u64 = 6;
 
 // The words of a window.
 const N_WORDS: usize = 128;
@@ -28,16 +31,16 @@ pub struct Marked {
 
 // The place of the word that holds the bit of `counter`.
 fn word_of(counter: u64) -> usize
-    ensures { λ r. ⌜ r ≡ wordOf counter ⌝ }
+    ensures { λ r. ⌜ r ≡ counter % 8192 / 64 ⌝ }
 {
-    (counter % N_BITS / WORD_SIZE) as usize
+    ((counter >> WORD_SHIFT) as usize) & (N_WORDS - 1)
 }
 
 // The place of the bit of `counter` in its word.
 fn bit_of(counter: u64) -> u64
-    ensures { λ r. ⌜ r ≡ bitOf counter ⌝ }
+    ensures { λ r. ⌜ r ≡ counter % 64 ⌝ }
 {
-    counter % WORD_SIZE
+    counter & (WORD_SIZE - 1)
 }
 
 // Sets the bit of `counter`.
@@ -76,7 +79,7 @@ fn check_bit(words: &[u64], counter: u64) -> bool
 {
     let word = word_of(counter);
     let bit = bit_of(counter);
-    (words[word] >> bit) % 2 == 1
+    (words[word] >> bit) & 1 == 1
 }
 
 // Clears the bits of the counters from `from` up to `to`, one by one.
@@ -104,12 +107,12 @@ fn clear_words(words: &mut [u64], from: u64, to: u64) -> u64
     i
 }
 
-// The first counter at or after `from` that begins a word.
+// The first counter at or after `from` that begins a word; 0 where it would be 2^64.
 fn word_edge(from: u64) -> u64
-    requires { ⌜ from < 18446744073709543423 ⌝ }
-    ensures { λ r. ⌜ (from ≤ r) × (r % 64 ≡ 0) ⌝ }
+    ensures { λ r. ⌜ r ≡ (from + 63) / 64 * 64 % 2 ^ 64 ⌝ }
 {
-    (from + (WORD_SIZE - 1)) / WORD_SIZE * WORD_SIZE
+    let last = std::num::wrapping_add_u64(from, WORD_SIZE - 1);
+    (last >> WORD_SHIFT) << WORD_SHIFT
 }
 
 // Clears every word.

@@ -1,5 +1,6 @@
 use Rattle.sessions.specs.Damage.{slotHolds}
 use Rattle.base.proofs.Choice.{picks}
+use Rattle.sessions.proofs.Ways.{slot-tested}
 use borrow.Author.Needs.{needs}
 use Rattle.sessions.proofs.damage.slot_holds.Statement.{statement}
 use Rattle.sessions.proofs.damage.slot_holds.Tie as tie
@@ -16,16 +17,17 @@ returns-3 : tie.Need-returns-3
 unfolding slotHolds
 returns-3 c = search (picks, needs)
 
-cast-result : tie.Need-cast-result
-cast-result c = search needs
+slot-of-requires : tie.Need-slot-of-requires
+slot-of-requires c κs = search needs
 
 returns-4 : tie.Need-returns-4
 unfolding slotHolds
-returns-4 c = search (picks, needs)
+returns-4 c = search (picks, slot-tested, needs) depth 6
 
 returns-5 : tie.Need-returns-5
 unfolding slotHolds
 returns-5 c = search (picks, needs)
 
 pub slot-holds-spec : {M : Type 1} → statement M
-slot-holds-spec = tie.close (tie.spec returns returns-2 returns-3 cast-result returns-4 returns-5)
+slot-holds-spec =
+    tie.close (tie.spec returns returns-2 returns-3 slot-of-requires returns-4 returns-5)

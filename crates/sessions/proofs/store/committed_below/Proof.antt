@@ -4,6 +4,12 @@ use borrow.Author.Needs.{needs}
 use Rattle.sessions.proofs.store.committed_below.Statement.{statement}
 use Rattle.sessions.proofs.store.committed_below.Tie as tie
 
+full-words-requires : tie.Need-full-words-requires
+full-words-requires c κs = search needs
+
+bits-beyond-requires : tie.Need-bits-beyond-requires
+bits-beyond-requires c κs = search needs
+
 sub-count-ones : tie.Need-sub-count-ones
 sub-count-ones c = search needs
 
@@ -30,13 +36,15 @@ add-result c = search needs
 
 returns : tie.Need-returns
 returns c =
-    let fit : Fitting (c .before .before .before .before .before .args .words .now) = λ j. c .before .before .before .before .shared-slice-known .given j .fits in
+    let fit : Fitting (c .before .before .before .before .before .before .before .args .words .now) = λ j. c .before .before .before .before .before .before .shared-slice-known .given j .fits in
     search (committed-sum, committed-most, needs)
 
 pub committed-below-spec : {M : Type 1} → statement M
 committed-below-spec =
     tie.close
     (tie.spec
+    full-words-requires
+    bits-beyond-requires
     sub-count-ones
     part-count-ones-start
     part-count-ones-end

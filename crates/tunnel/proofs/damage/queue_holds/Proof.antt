@@ -1,6 +1,5 @@
 use Prim.Native.Nat.{_-_}
 use borrow.Author.Needs.{needs}
-use Rattle.tunnel.proofs.PartWays.{place-small}
 use Rattle.tunnel.proofs.QueueLoop.{QueueYet, queue-begins, queue-more, queue-ends, queue-bad}
 use Rattle.tunnel.proofs.damage.queue_holds.Statement.{statement}
 use Rattle.tunnel.proofs.damage.queue_holds.Tie as tie
@@ -18,10 +17,10 @@ place-of-requires : tie.Need-place-of-requires Inv-loop μ-loop
 place-of-requires c κs = search needs
 
 mul-slot : tie.Need-mul-slot Inv-loop μ-loop
-mul-slot c = search (place-small, needs)
+mul-slot c = search needs
 
 element-copy-out-slot : tie.Need-element-copy-out-slot Inv-loop μ-loop
-element-copy-out-slot c = search (place-small, needs)
+element-copy-out-slot c = search needs
 
 event-holds-requires : tie.Need-event-holds-requires Inv-loop μ-loop
 event-holds-requires c κs = search needs

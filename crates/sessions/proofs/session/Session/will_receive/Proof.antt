@@ -13,8 +13,8 @@ returns-2 : tie.Need-returns-2
 unfolding willReceive
 returns-2 c = search (picks, needs)
 
-cast-start : tie.Need-cast-start
-cast-start c = search needs
+slot-of-requires : tie.Need-slot-of-requires
+slot-of-requires c κs = search needs
 
 mul-start : tie.Need-mul-start
 mul-start c = search needs
@@ -46,7 +46,7 @@ will-receive-spec =
     (tie.spec
     returns
     returns-2
-    cast-start
+    slot-of-requires
     mul-start
     add-end
     mul-will-accept

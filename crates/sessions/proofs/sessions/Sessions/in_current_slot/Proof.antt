@@ -1,3 +1,4 @@
+use Rattle.sessions.proofs.Ways.{same-slot}
 use Rattle.sessions.specs.Cases.{lookups}
 use Rattle.base.proofs.Choice.{picks}
 use Rattle.sessions.specs.Sessions.{inCurrentSlot}
@@ -18,10 +19,23 @@ returns : tie.Need-returns
 unfolding inCurrentSlot
 returns c = search (picks, lookups, needs)
 
+slot-of-requires : tie.Need-slot-of-requires
+slot-of-requires c κs = search needs
+
+slot-of-requires-2 : tie.Need-slot-of-requires-2
+slot-of-requires-2 c κs = search needs
+
 returns-2 : tie.Need-returns-2
-unfolding inCurrentSlot
-returns-2 c = search (picks, lookups, needs)
+returns-2 c = search (same-slot, needs)
 
 pub in-current-slot-spec : {M : Type 1} → statement M
 in-current-slot-spec =
-    tie.close (tie.spec current-requires enum-known-session enum-told returns returns-2)
+    tie.close
+    (tie.spec
+    current-requires
+    enum-known-session
+    enum-told
+    returns
+    slot-of-requires
+    slot-of-requires-2
+    returns-2)

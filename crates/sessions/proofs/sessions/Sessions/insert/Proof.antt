@@ -6,8 +6,8 @@ use Rattle.sessions.proofs.sessions.Sessions.insert.Tie as tie
 returns : tie.Need-returns
 returns c = search (not-inserted, needs)
 
-cast-slot : tie.Need-cast-slot
-cast-slot c = search needs
+slot-of-requires : tie.Need-slot-of-requires
+slot-of-requires c κs = search needs
 
 zero-slot-requires : tie.Need-zero-slot-requires
 zero-slot-requires c κs = search needs
@@ -29,7 +29,7 @@ insert-spec =
     tie.close
     (tie.spec
     returns
-    cast-slot
+    slot-of-requires
     zero-slot-requires
     put-requires
     wrapping-add-u64-requires

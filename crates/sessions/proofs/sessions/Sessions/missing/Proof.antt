@@ -18,8 +18,8 @@ enum-told c = search needs
 returns-2 : tie.Need-returns-2
 returns-2 c = search (not-found, needs)
 
-cast-start : tie.Need-cast-start
-cast-start c = search needs
+slot-of-requires : tie.Need-slot-of-requires
+slot-of-requires c κs = search needs
 
 mul-start : tie.Need-mul-start
 mul-start c = search needs
@@ -54,7 +54,7 @@ missing-spec =
     enum-known-session
     enum-told
     returns-2
-    cast-start
+    slot-of-requires
     mul-start
     add-end
     mul-missing-of

@@ -1,10 +1,10 @@
-use Rattle.sessions.specs.Sessions.{put}
+use Rattle.sessions.proofs.Ways.{put-is}
 use borrow.Author.Needs.{needs}
 use Rattle.sessions.proofs.sessions.Sessions.put.Statement.{statement}
 use Rattle.sessions.proofs.sessions.Sessions.put.Tie as tie
 
-cast-slot : tie.Need-cast-slot
-cast-slot c = search needs
+slot-of-requires : tie.Need-slot-of-requires
+slot-of-requires c κs = search needs
 
 mul-session : tie.Need-mul-session
 mul-session c = search needs
@@ -13,8 +13,7 @@ element-set-from-session : tie.Need-element-set-from-session
 element-set-from-session c = search needs
 
 returns : tie.Need-returns
-unfolding put
-returns c = search needs
+returns c = search (put-is, needs)
 
 pub put-spec : {M : Type 1} → statement M
-put-spec = tie.close (tie.spec cast-slot mul-session element-set-from-session returns)
+put-spec = tie.close (tie.spec slot-of-requires mul-session element-set-from-session returns)

@@ -32,8 +32,8 @@ same-length-2 c = search needs
 returns-3 : tie.Need-returns-3
 returns-3 c = search (none-receives, not-false, needs)
 
-cast-start : tie.Need-cast-start
-cast-start c = search needs
+slot-of-requires : tie.Need-slot-of-requires
+slot-of-requires c κs = search needs
 
 mul-start : tie.Need-mul-start
 mul-start c = search needs
@@ -79,7 +79,7 @@ receive-spec =
     enum-told
     same-length-2
     returns-3
-    cast-start
+    slot-of-requires
     mul-start
     add-end
     mul-finish-all

@@ -1,4 +1,4 @@
-use Rattle.tunnel.proofs.PartWays.{place-small, pushed-full, pushed-more}
+use Rattle.tunnel.proofs.PartWays.{pushed-full, pushed-more}
 use borrow.Author.Needs.{needs}
 use Rattle.tunnel.proofs.ring_buffer.RingBuffer.push_back.Statement.{statement}
 use Rattle.tunnel.proofs.ring_buffer.RingBuffer.push_back.Tie as tie
@@ -7,7 +7,7 @@ place-of-requires : tie.Need-place-of-requires
 place-of-requires c κs = search needs
 
 store-requires : tie.Need-store-requires
-store-requires c κs = search (place-small, needs)
+store-requires c κs = search needs
 
 place-of-requires-2 : tie.Need-place-of-requires-2
 place-of-requires-2 c κs = search needs
