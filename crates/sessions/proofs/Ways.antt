@@ -23,7 +23,7 @@ use Rattle.sessions.specs.declared.sessions.Selected.the-variants.{Unset
 use Rattle.sessions.specs.declared.sessions.Missing.the-variants.{Refused, Count}
 use Rattle.sessions.specs.declared.sessions.Sessions.{Sessions}
 use Rattle.sessions.specs.declared.sessions.Expired.{Expired}
-use Rattle.sessions.specs.Sessions.{expiring, ring, withSlots, withCurrent, withLastIndex, withInserted, slotAt, emptySlots, newSessions, inSlotOf, get, put, currentOf, inCurrentSlot, indexAfter, nextIndex, inserting, insert, isIndex, clear, emptied, expiredSlot, discard, expireSlot, expire, missing}
+use Rattle.sessions.specs.Sessions.{expiring, ring, withSlots, withCurrent, withLastIndex, withInserted, slotAt, emptySlots, newSessions, inSlotOf, get, put, inCurrentSlot, indexAfter, nextIndex, inserting, insert, isIndex, clear, emptied, expiredSlot, discard, expireSlot, expire, missing}
 use Rattle.sessions.specs.Cases.{caseFound}
 
 -- an empty slot's record, made from a new session
@@ -31,9 +31,9 @@ pub empty-is : (s : Session) → s ≡ newSession 0 0 Initiator 0 → withFilled
 unfolding emptySession
 empty-is s e = rw e
 
--- a slot compared with the slot of an index
-pub slot-tested : (index slot k : ℕ) → k ≡ slotOf index → eqb k slot ≡ eqb (slotOf index) slot
-slot-tested index slot k e = rw e
+-- two slots compared, where the code has worked out the first or both
+pub slots-tested : (k l slot other : ℕ) → k ≡ slot → l ≡ other → eqb k l ≡ eqb slot other
+slots-tested k l slot other e f = rw (e, f)
 
 -- the early look at a part of the store
 pub looked : (s : Session) (store : List ℕ) (receiver counter slot start end r : ℕ) → length store ≡ 1024 → receiver ≡ s .«receiving_index»
@@ -70,12 +70,6 @@ module _ (s : Sessions) where
   pub put-is : (x : Session) (slot : ℕ) → slot ≡ slotOf (x .«receiving_index») → withSlots s (set (s .slots) slot x) ≡ put s x
   unfolding put
   put-is x slot k = rw k
-
-  -- two slots compared, the current session's and that of an index
-  pub same-slot : (index : ℕ) (found : Found) (x : Session) (a b : ℕ) → found ≡ currentOf s → found ≡ Got x
-      → a ≡ slotOf (x .«receiving_index») → b ≡ slotOf index → eqb a b ≡ inCurrentSlot s index
-  unfolding inCurrentSlot caseFound
-  same-slot index found x a b e p k l = rw (← e, p, k, l)
 
   -- one number taken, or two
   module _ (first : ℕ) (f : Bool) (one : first ≡ wrappingIncrement (s .«last_index»)) (at : f ≡ inCurrentSlot s first) where

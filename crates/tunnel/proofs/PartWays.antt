@@ -84,7 +84,7 @@ module _ (h : Handshake) (now : ℕ) (flag : Bool) (at : Time) (a : at ≡ cooki
   unfolding expireCookie choose
   cookie-kept n = rw (← a, ← f, n)
 
--- an event appended, and the oldest removed
+-- an event appended
 module _ (r ring : RingBuffer) (event : Event) (place : ℕ) (p : place ≡ (r .head + r .len) % 16) (q : ring ≡ storeAt r place event) where
   pub pushed-full : (first : ℕ) → r .len ≡ 16 → first ≡ (r .head + 1) % 16 → ringOf (ring .slots) first (ring .len) ≡ pushBack r event
   unfolding pushBack storeAt placeOf choose
@@ -94,6 +94,7 @@ module _ (r ring : RingBuffer) (event : Event) (place : ℕ) (p : place ≡ (r .
   unfolding pushBack storeAt placeOf choose
   pushed-more h = rw (ne-eqb (r .len) 16 h, ← p, q)
 
+-- the oldest event removed
 pub popped-one : (r ring : RingBuffer) (first : ℕ) → (r .len ≡ 0 → ⊥) → ring ≡ storeAt r (r .head) Empty → first ≡ (r .head + 1) % 16
     → record { events = ringOf (ring .slots) first (r .len - 1); event = eventAt (r .slots) (r .head) } ≡ popFront r
 unfolding popFront placeOf choose

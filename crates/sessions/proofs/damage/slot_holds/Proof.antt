@@ -1,6 +1,6 @@
 use Rattle.sessions.specs.Damage.{slotHolds}
 use Rattle.base.proofs.Choice.{picks}
-use Rattle.sessions.proofs.Ways.{slot-tested}
+use Rattle.sessions.proofs.Ways.{slots-tested}
 use borrow.Author.Needs.{needs}
 use Rattle.sessions.proofs.damage.slot_holds.Statement.{statement}
 use Rattle.sessions.proofs.damage.slot_holds.Tie as tie
@@ -22,7 +22,7 @@ slot-of-requires c κs = search needs
 
 returns-4 : tie.Need-returns-4
 unfolding slotHolds
-returns-4 c = search (picks, slot-tested, needs) depth 6
+returns-4 c = search (picks, slots-tested, needs) depth 6
 
 returns-5 : tie.Need-returns-5
 unfolding slotHolds

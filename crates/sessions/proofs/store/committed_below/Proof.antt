@@ -36,7 +36,7 @@ add-result c = search needs
 
 returns : tie.Need-returns
 returns c =
-    let fit : Fitting (c .before .before .before .before .before .before .before .args .words .now) = λ j. c .before .before .before .before .before .before .shared-slice-known .given j .fits in
+    let fit : Fitting (c .before .before .before .before .before .before .before .args .words .now) = λ j. c .before .shared-slice-known2 .given j .fits in
     search (committed-sum, committed-most, needs)
 
 pub committed-below-spec : {M : Type 1} → statement M

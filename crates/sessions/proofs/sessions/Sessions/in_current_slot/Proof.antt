@@ -1,4 +1,4 @@
-use Rattle.sessions.proofs.Ways.{same-slot}
+use Rattle.sessions.proofs.Ways.{slots-tested}
 use Rattle.sessions.specs.Cases.{lookups}
 use Rattle.base.proofs.Choice.{picks}
 use Rattle.sessions.specs.Sessions.{inCurrentSlot}
@@ -26,7 +26,8 @@ slot-of-requires-2 : tie.Need-slot-of-requires-2
 slot-of-requires-2 c κs = search needs
 
 returns-2 : tie.Need-returns-2
-returns-2 c = search (same-slot, needs)
+unfolding inCurrentSlot
+returns-2 c = search (lookups, slots-tested, needs)
 
 pub in-current-slot-spec : {M : Type 1} → statement M
 in-current-slot-spec =
