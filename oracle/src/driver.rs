@@ -1,5 +1,5 @@
 //! Answers each call of a script with the original tunnel, and adds document 01's checks 1, 2
-//! and 13, the greatest time and document 02's missing report; datagrams are read, headers written and a log kept beside it.
+//! and 13, the greatest time and document 02's missing report and skips; datagrams are read, headers written and a log kept beside it.
 
 use std::fmt;
 use std::num::NonZeroUsize;
@@ -74,6 +74,7 @@ pub enum Answer {
     Expired,
     At(u64),
     Missing(u64),
+    Skips(Vec<u64>),
     Type1 {
         sender: u32,
     },
@@ -110,6 +111,10 @@ impl fmt::Display for Answer {
                     .iter()
                     .try_for_each(|verdict| write!(f, " {verdict}"))
             }
+            Answer::Skips(skips) => {
+                write!(f, "ok")?;
+                skips.iter().try_for_each(|skipped| write!(f, " {skipped}"))
+            }
             Answer::Established { started, confirmed } => write!(f, "ok est {started} {confirmed}"),
             Answer::Expired => write!(f, "ok exp"),
             Answer::At(time) => write!(f, "ok at {time}"),
@@ -142,12 +147,13 @@ pub struct Driver {
     log: Log,
 }
 
-/// A tunnel, the greatest time it was given and the counters it was seen to commit.
+/// A tunnel, the greatest time it was given, the counters it was seen to commit and the skips of its last batch that was answered good.
 struct Held {
     tunnel: Tunnel,
     base: Instant,
     greatest: u64,
     recount: Recount,
+    skips: Option<Vec<u64>>,
 }
 
 impl Default for Driver {
@@ -268,6 +274,7 @@ impl Held {
             base,
             greatest: time,
             recount: Recount::default(),
+            skips: None,
         }
     }
 
@@ -315,6 +322,7 @@ impl Held {
             Call::Event => Ok(self.event()),
             Call::Next => Ok(self.next()),
             Call::Missing { index } => self.missing(index),
+            Call::Skips => Ok(self.skips()),
             Call::Split {
                 peer,
                 first,
@@ -431,7 +439,7 @@ impl Held {
         Ok(Answer::Range(range.range()))
     }
 
-    /// Commits a batch and gives a verdict on each message.
+    /// Commits a batch, gives a verdict on each message and keeps what each one skipped.
     fn recv(
         &mut self,
         index: u32,
@@ -455,7 +463,8 @@ impl Held {
             .map(|message| message.map_or_else(Error::number, |_| 0))
             .collect();
         self.greatest = time;
-        self.recount.note(session, &counters, &verdicts);
+        let skips = self.recount.note(session, &counters, &verdicts);
+        self.skips = Some(skips);
 
         Ok(Answer::Verdicts(verdicts))
     }
@@ -524,6 +533,11 @@ impl Held {
         let session = session.ok_or(NO_SESSION)?;
 
         Ok(Answer::Missing(self.recount.missing(session.id)))
+    }
+
+    /// The skips of the last batch that was answered good, if there was one.
+    fn skips(&self) -> Answer {
+        self.skips.clone().map_or(Answer::None, Answer::Skips)
     }
 
     /// Turns down a time earlier than the greatest one.
@@ -816,6 +830,83 @@ mod tests {
             let verdict = held.recv(257, 0, 0, vec![(counter, opening)]);
             verdict.expect("a verdict");
         }
+    }
+
+    /// What a good batch of the session 257 skipped.
+    fn skips_of(held: &mut Held, messages: &[(u64, Opening)]) -> Vec<u64> {
+        held.recv(257, 0, 0, messages.to_vec()).expect("verdicts");
+
+        held.skips.clone().expect("skips")
+    }
+
+    /// Messages ahead of `next`, at it and behind it, some with an opening that fails.
+    fn messages_around(next: u64, step: u64) -> Vec<(u64, Opening)> {
+        let openings = [Opening::Data, Opening::Keepalive, Opening::Failed];
+
+        (step..=step + step % 6)
+            .map(|at| {
+                let far = at.wrapping_mul(0x9e37_79b9_7f4a_7c15) >> (at % 9 + 48);
+                let counter = match at % 4 {
+                    0 => next + far,
+                    1 => next.saturating_sub(far),
+                    _ => (next + far % 12).saturating_sub(3),
+                };
+                (counter, openings[(at % 5 / 2) as usize])
+            })
+            .collect()
+    }
+
+    #[test]
+    fn a_skip_is_how_far_the_next_counter_of_the_rust_moves_less_one() {
+        let [mut single, mut whole] = [tunnel(), tunnel()];
+        let next = |held: &Held| {
+            let session = held.tunnel.sessions().view(Index::from_peer(257));
+            session.expect("the session").next_received
+        };
+        single.hello(9, 0, 0).expect("a session");
+        whole.hello(9, 0, 0).expect("a session");
+
+        for step in 0..4_000 {
+            let messages = messages_around(next(&single), step);
+            let mut skips = Vec::new();
+            for message in &messages {
+                let before = next(&single);
+                skips.extend(skips_of(&mut single, &[*message]));
+                let moved = next(&single) - before;
+                assert_eq!(skips.last(), Some(&moved.saturating_sub(1)));
+            }
+            assert_eq!(skips_of(&mut whole, &messages), skips);
+        }
+    }
+
+    #[test]
+    fn what_is_turned_down_or_not_ahead_skips_nothing() {
+        const LAST: u64 = REJECT_AFTER_MESSAGES - 1;
+        let mut held = tunnel();
+        held.hello(9, 0, 0).expect("a session");
+        let messages = [
+            (3, Opening::Data),
+            (3, Opening::Data),
+            (9, Opening::Failed),
+            (2, Opening::Keepalive),
+            (4, Opening::Keepalive),
+            (20_000, Opening::Data),
+            (5, Opening::Data),
+            (20_001, Opening::Keepalive),
+            (20_010, Opening::Failed),
+            (20_010, Opening::Data),
+            (LAST, Opening::Keepalive),
+            (LAST + 1, Opening::Data),
+        ];
+
+        assert_eq!(
+            held.recv(257, 0, 0, messages.to_vec()),
+            Ok(Answer::Verdicts(vec![0, 10, 7, 0, 0, 0, 9, 0, 7, 0, 0, 9]))
+        );
+        assert_eq!(
+            held.skips(),
+            Answer::Skips(vec![3, 0, 0, 0, 0, 19_995, 0, 0, 0, 8, LAST - 20_011, 0])
+        );
     }
 
     #[test]

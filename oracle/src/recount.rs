@@ -1,4 +1,4 @@
-//! The missing report, recounted from document 02's note 2 with the counters that were seen committed.
+//! The missing report and the skips, recounted from document 02's notes 2 and 5 with the counters that were seen committed.
 
 use std::collections::{BTreeMap, BTreeSet};
 
@@ -12,26 +12,37 @@ pub(crate) struct Recount {
 }
 
 impl Recount {
-    /// Notes the counters of a batch that got the verdict 0.
-    pub(crate) fn note(&mut self, session: u64, counters: &[u64], verdicts: &[u8]) {
+    /// Notes the counters of a batch that got the verdict 0 and tells how many counters each message skipped.
+    pub(crate) fn note(&mut self, session: u64, counters: &[u64], verdicts: &[u8]) -> Vec<u64> {
         let committed = self.committed.entry(session).or_default();
+        let mut skips = Vec::with_capacity(counters.len());
 
         for (counter, verdict) in counters.iter().zip(verdicts) {
+            let mut skipped = 0;
             if *verdict == 0 {
+                skipped = counter.saturating_sub(next_expected(committed));
                 committed.insert(*counter);
             }
+            skips.push(skipped);
         }
+
+        skips
     }
 
     /// The number of counters of a session's window that were not committed.
     pub(crate) fn missing(&self, session: u64) -> u64 {
         let none = BTreeSet::new();
         let committed = self.committed.get(&session).unwrap_or(&none);
-        let next = committed.last().map_or(0, |greatest| greatest + 1);
+        let next = next_expected(committed);
         let first = next.saturating_sub(WINDOW);
 
         (first..next)
             .filter(|counter| !committed.contains(counter))
             .count() as u64
     }
+}
+
+/// One more than the greatest committed counter, or 0.
+fn next_expected(committed: &BTreeSet<u64>) -> u64 {
+    committed.last().map_or(0, |greatest| greatest + 1)
 }

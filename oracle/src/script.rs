@@ -75,6 +75,7 @@ pub enum Call {
     Missing {
         index: u32,
     },
+    Skips,
     Split {
         peer: u32,
         first: u64,
@@ -178,6 +179,7 @@ fn read_call(words: &mut Words<'_>) -> Option<Call> {
         b"missing" => Call::Missing {
             index: words.number_32()?,
         },
+        b"skips" => Call::Skips,
         b"split" => Call::Split {
             peer: words.number_32()?,
             first: words.number_64()?,

@@ -36,6 +36,7 @@ impl Call {
             Call::Event
             | Call::Next
             | Call::Missing { .. }
+            | Call::Skips
             | Call::Split { .. }
             | Call::Datagram { .. }
             | Call::Header { .. }
@@ -96,6 +97,7 @@ impl fmt::Display for Call {
             Call::Event => write!(f, "event"),
             Call::Next => write!(f, "next"),
             Call::Missing { index } => write!(f, "missing {index}"),
+            Call::Skips => write!(f, "skips"),
             Call::Split {
                 peer,
                 first,

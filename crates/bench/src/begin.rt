@@ -66,7 +66,17 @@ fn received(tunnel: Tunnel, store: &mut [u64]) -> Tunnel {
     let counters = [5u64; 1];
     let kinds = [0u8; 1];
     let mut verdicts = [0u8; 1];
-    let batch = tunnel.receive(store, INDEX, 0, 0, &counters, &kinds, &mut verdicts);
+    let mut skips = [0u64; 1];
+    let batch = tunnel.receive(
+        store,
+        INDEX,
+        0,
+        0,
+        &counters,
+        &kinds,
+        &mut verdicts,
+        &mut skips,
+    );
     batch.tunnel
 }
 

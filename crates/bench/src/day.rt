@@ -64,6 +64,7 @@ impl Day {
         counters: &[u64],
         kinds: &[u8],
         verdicts: &mut [u8],
+        skips: &mut [u64],
         first: u64,
     ) -> Day {
         let look = self.tunnel.look(store, self.index, first, self.now);
@@ -76,6 +77,7 @@ impl Day {
             counters,
             kinds,
             verdicts,
+            skips,
         );
         looked.after(batch)
     }
@@ -104,9 +106,10 @@ impl Day {
         counters: &[u64],
         kinds: &[u8],
         verdicts: &mut [u8],
+        skips: &mut [u64],
         first: u64,
     ) -> Day {
-        self.receive(store, counters, kinds, verdicts, first)
+        self.receive(store, counters, kinds, verdicts, skips, first)
             .send()
             .wake(store)
             .later(PAUSE)
@@ -119,6 +122,7 @@ impl Day {
         counters: &[u64],
         kinds: &[u8],
         verdicts: &mut [u8],
+        skips: &mut [u64],
         start: usize,
     ) -> Day {
         let end = std::num::wrapping_add_usize(start, 64);
@@ -128,7 +132,14 @@ impl Day {
         if end > counters.len() {
             return self;
         }
-        self.exchange(store, &counters[start..end], kinds, verdicts, start as u64)
+        self.exchange(
+            store,
+            &counters[start..end],
+            kinds,
+            verdicts,
+            skips,
+            start as u64,
+        )
     }
 
     // The bursts of a session.
@@ -138,10 +149,11 @@ impl Day {
         counters: &[u64],
         kinds: &[u8],
         verdicts: &mut [u8],
+        skips: &mut [u64],
     ) -> Day {
         let mut start = 0;
         while start < 768 {
-            self = self.burst(store, counters, kinds, verdicts, start);
+            self = self.burst(store, counters, kinds, verdicts, skips, start);
             start = start + 64;
         }
         self
@@ -158,8 +170,16 @@ impl Day {
     }
 
     // The bursts of a session and the handshake of the next.
-    fn round(self, store: &mut [u64], counters: &[u64], kinds: &[u8], verdicts: &mut [u8]) -> Day {
-        self.bursts(store, counters, kinds, verdicts).rekey(store)
+    fn round(
+        self,
+        store: &mut [u64],
+        counters: &[u64],
+        kinds: &[u8],
+        verdicts: &mut [u8],
+        skips: &mut [u64],
+    ) -> Day {
+        self.bursts(store, counters, kinds, verdicts, skips)
+            .rekey(store)
     }
 
     // Rounds, each with the messages of the first 768 counters.
@@ -169,11 +189,12 @@ impl Day {
         counters: &[u64],
         kinds: &[u8],
         verdicts: &mut [u8],
+        skips: &mut [u64],
         turns: usize,
     ) -> Day {
         let mut i = 0;
         while i < turns {
-            self = self.round(store, counters, kinds, verdicts);
+            self = self.round(store, counters, kinds, verdicts, skips);
             i = i + 1;
         }
         self
@@ -194,6 +215,7 @@ pub fn rounds(
     counters: &[u64],
     kinds: &[u8],
     verdicts: &mut [u8],
+    skips: &mut [u64],
     turns: usize,
 ) -> Tunnel {
     let day = Day {
@@ -203,5 +225,6 @@ pub fn rounds(
         id: 0,
         sum: 0,
     };
-    day.rounds(store, counters, kinds, verdicts, turns).ended()
+    day.rounds(store, counters, kinds, verdicts, skips, turns)
+        .ended()
 }

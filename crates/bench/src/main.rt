@@ -84,21 +84,31 @@ fn listed(
     counters: &[u64],
     kinds: &[u8],
     verdicts: &mut [u8],
+    skips: &mut [u64],
     asked: Asked,
 ) -> Tunnel {
     if asked.case == b'm' {
-        return rounds(tunnel, store, counters, kinds, verdicts, asked.turns);
+        return rounds(tunnel, store, counters, kinds, verdicts, skips, asked.turns);
     }
-    receives(tunnel, store, counters, kinds, verdicts, batches_of(asked))
+    receives(
+        tunnel,
+        store,
+        counters,
+        kinds,
+        verdicts,
+        skips,
+        batches_of(asked),
+    )
 }
 
-// The cases with a list, over so much of the kinds and the verdicts as a batch has.
+// The cases with a list, over so much of the kinds, the verdicts and the skips as a batch has.
 fn cut(
     tunnel: Tunnel,
     store: &mut [u64],
     counters: &[u64],
     kinds: &[u8],
     verdicts: &mut [u8],
+    skips: &mut [u64],
     asked: Asked,
 ) -> Tunnel {
     let len = length_of(asked.len);
@@ -108,12 +118,16 @@ fn cut(
     if len > verdicts.len() {
         return tunnel;
     }
+    if len > skips.len() {
+        return tunnel;
+    }
     listed(
         tunnel,
         store,
         counters,
         &kinds[0..len],
         &mut verdicts[0..len],
+        &mut skips[0..len],
         asked,
     )
 }
@@ -135,11 +149,12 @@ fn run(
     counters: &[u64],
     kinds: &[u8],
     verdicts: &mut [u8],
+    skips: &mut [u64],
 ) -> Tunnel {
     let case = asked.case;
     match case {
         b's' => sends(tunnel, asked.turns),
-        b'r' | b'm' | b'q' => cut(tunnel, store, counters, kinds, verdicts, asked),
+        b'r' | b'm' | b'q' => cut(tunnel, store, counters, kinds, verdicts, skips, asked),
         b'k' | b'h' | b'i' => wakes(tunnel, store, step_of(case), asked.turns),
         b'l' => looks(tunnel, store, asked.turns),
         b'd' | b'f' => deadlines(tunnel, asked.turns),
@@ -203,6 +218,7 @@ fn tunnel_case(asked: Asked) {
     let mut counters = [0u64; 65536];
     let kinds = [0u8; 1024];
     let mut verdicts = [0u8; 1024];
+    let mut skips = [0u64; 1024];
     fill(&mut counters, asked.pattern);
     let tunnel = run(
         begun(asked.case, &mut store),
@@ -211,6 +227,7 @@ fn tunnel_case(asked: Asked) {
         &counters,
         &kinds,
         &mut verdicts,
+        &mut skips,
     );
     report(tunnel, &store, &verdicts, reports_of(asked));
 }

@@ -25,6 +25,7 @@ pub fn receives(
     counters: &[u64],
     kinds: &[u8],
     verdicts: &mut [u8],
+    skips: &mut [u64],
     turns: usize,
 ) -> Tunnel {
     let mut now = 0;
@@ -35,7 +36,16 @@ pub fn receives(
             return tunnel;
         }
         let end = start + kinds.len();
-        let batch = tunnel.receive(store, INDEX, 0, now, &counters[start..end], kinds, verdicts);
+        let batch = tunnel.receive(
+            store,
+            INDEX,
+            0,
+            now,
+            &counters[start..end],
+            kinds,
+            verdicts,
+            skips,
+        );
         tunnel = batch.tunnel;
         now = std::num::wrapping_add_u64(now, 1);
         start = end;

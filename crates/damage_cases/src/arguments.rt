@@ -33,19 +33,26 @@ fn store_cases(words: usize) -> Tally {
 }
 
 // A batch with lists of these lengths.
-fn lists_case(counters: usize, kinds: usize, verdicts: usize, expected: u64) -> Tally {
+fn lists_case(
+    counters: usize,
+    kinds: usize,
+    verdicts: usize,
+    skips: usize,
+    expected: u64,
+) -> Tally {
     one(
         no_damage(),
-        good(RECEIVE, GREATEST).with_lists(counters, kinds, verdicts),
+        good(RECEIVE, GREATEST).with_lists(counters, kinds, verdicts, skips),
         expected,
     )
 }
 
 // Lists of which one is longer or shorter than the others.
 fn unequal_lists(some: usize, other: usize) -> Tally {
-    lists_case(other, some, some, 2)
-        .plus(lists_case(some, other, some, 2))
-        .plus(lists_case(some, some, other, 2))
+    lists_case(other, some, some, some, 2)
+        .plus(lists_case(some, other, some, some, 2))
+        .plus(lists_case(some, some, other, some, 2))
+        .plus(lists_case(some, some, some, other, 2))
 }
 
 // Lists of unequal length.
@@ -60,14 +67,14 @@ fn all_unequal_lists() -> Tally {
 // Lists of more than 1,024, and the longest and the shortest that are taken.
 fn long_lists() -> Tally {
     unequal_lists(1024, 1025)
-        .plus(lists_case(1025, 1025, 1025, 2))
-        .plus(lists_case(1024, 1024, 1024, ANSWERED))
-        .plus(lists_case(0, 0, 0, ANSWERED))
+        .plus(lists_case(1025, 1025, 1025, 1025, 2))
+        .plus(lists_case(1024, 1024, 1024, 1024, ANSWERED))
+        .plus(lists_case(0, 0, 0, 0, ANSWERED))
 }
 
 // A batch of so many messages with a kind at a place.
 fn kind_case(len: usize, place: usize, kind: u8, expected: u64) -> Tally {
-    let mut request = good(RECEIVE, GREATEST).with_lists(len, len, len);
+    let mut request = good(RECEIVE, GREATEST).with_lists(len, len, len, len);
     request.kind = kind;
     request.place = place;
     one(no_damage(), request, expected)

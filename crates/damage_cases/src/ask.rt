@@ -69,10 +69,12 @@ fn ask_lists(
     counters: &[u64],
     kinds: &[u8],
     verdicts: &mut [u8],
+    skips: &mut [u64],
 ) -> Answered {
     let a = at_most(r.counters, counters.len());
     let b = at_most(r.kinds, kinds.len());
     let c = at_most(r.verdicts, verdicts.len());
+    let d = at_most(r.skips, skips.len());
     tunnel.receive(
         store,
         r.index,
@@ -81,25 +83,38 @@ fn ask_lists(
         &counters[..a],
         &kinds[..b],
         &mut verdicts[..c],
+        &mut skips[..d],
     )
 }
 
 // Carries out a batch of data with a kind at one place.
-fn ask_batch(tunnel: Tunnel, r: Request, store: &mut [u64], verdicts: &mut [u8]) -> Answered {
+fn ask_batch(
+    tunnel: Tunnel,
+    r: Request,
+    store: &mut [u64],
+    verdicts: &mut [u8],
+    skips: &mut [u64],
+) -> Answered {
     let counters = [r.counter; 1025];
     let mut kinds = [0u8; 1025];
     kinds[r.place % 1025] = r.kind;
-    ask_lists(tunnel, r, store, &counters, &kinds, verdicts)
+    ask_lists(tunnel, r, store, &counters, &kinds, verdicts, skips)
 }
 
 // Carries out a call over so much of the store as is to be lent.
-pub fn ask(tunnel: Tunnel, request: Request, words: &mut [u64], verdicts: &mut [u8]) -> Answered {
+pub fn ask(
+    tunnel: Tunnel,
+    request: Request,
+    words: &mut [u64],
+    verdicts: &mut [u8],
+    skips: &mut [u64],
+) -> Answered {
     let n = at_most(request.words, words.len());
     if request.call < RECEIVE {
         return ask_alone(tunnel, request);
     }
     if request.call == RECEIVE {
-        return ask_batch(tunnel, request, &mut words[..n], verdicts);
+        return ask_batch(tunnel, request, &mut words[..n], verdicts, skips);
     }
     ask_store(tunnel, request, &mut words[..n])
 }

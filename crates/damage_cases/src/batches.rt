@@ -19,12 +19,12 @@ const TOO_OLD: u64 = 180_000_003_000;
 
 // A request with no messages, with three and with as many as a batch may have.
 fn lengths(damage: Damage, request: Request, expected: u64) -> Tally {
-    one(damage, request.with_lists(0, 0, 0), expected).plus(one(
+    one(damage, request.with_lists(0, 0, 0, 0), expected).plus(one(
             damage,
-            request.with_lists(3, 3, 3),
+            request.with_lists(3, 3, 3, 3),
             expected,
         ))
-        .plus(one(damage, request.with_lists(1024, 1024, 1024), expected))
+        .plus(one(damage, request.with_lists(1024, 1024, 1024, 1024), expected))
 }
 
 // Batches with good arguments at a time.

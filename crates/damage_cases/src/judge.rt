@@ -24,7 +24,10 @@ pub const NOT_14: u64 = 23;
 // The verdict that stands in the list before a call.
 const UNJUDGED: u8 = 200;
 
-// What a call handed back, and whether the store and the verdicts are as they came.
+// The skip that stands in the list before a call.
+const UNCOUNTED: u64 = 1311768467463790320;
+
+// What a call handed back, and whether the store, the verdicts and the skips are as they came.
 struct Seen {
     answered: Answered,
     kept: bool,
@@ -54,22 +57,26 @@ fn none_judged(verdicts: &[u8]) -> bool {
     true
 }
 
-// Whether the store and the verdicts are as they came.
-fn untouched(words: &[u64], word: u64, verdicts: &[u8]) -> bool {
-    if all_words(words, word) {
-        return none_judged(verdicts);
+// Whether the store, the verdicts and the skips are as they came.
+fn untouched(words: &[u64], word: u64, verdicts: &[u8], skips: &[u64]) -> bool {
+    if !all_words(words, word) {
+        return false;
     }
-    false
+    if !none_judged(verdicts) {
+        return false;
+    }
+    all_words(skips, UNCOUNTED)
 }
 
-// Carries out a call, and looks at what became of the store and of the verdicts.
+// Carries out a call, and looks at what became of the store, the verdicts and the skips.
 fn attempt(tunnel: Tunnel, request: Request) -> Seen {
     let mut words = [request.word; 1025];
     let mut verdicts = [UNJUDGED; 1025];
-    let answered = ask(tunnel, request, &mut words, &mut verdicts);
+    let mut skips = [UNCOUNTED; 1025];
+    let answered = ask(tunnel, request, &mut words, &mut verdicts, &mut skips);
     Seen {
         answered,
-        kept: untouched(&words, request.word, &verdicts),
+        kept: untouched(&words, request.word, &verdicts, &skips),
     }
 }
 

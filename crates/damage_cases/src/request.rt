@@ -64,6 +64,7 @@ pub struct Request {
     pub counters: usize,
     pub kinds: usize,
     pub verdicts: usize,
+    pub skips: usize,
 }
 
 // The local index that the sound tunnel answers: an initiation's for a response or a cookie reply, otherwise a session's.
@@ -96,6 +97,7 @@ pub fn good(call: u64, now: u64) -> Request {
         counters: 3,
         kinds: 3,
         verdicts: 3,
+        skips: 3,
     }
 }
 
@@ -126,10 +128,17 @@ impl Request {
     }
 
     // The call with lists of these lengths.
-    pub fn with_lists(mut self, counters: usize, kinds: usize, verdicts: usize) -> Request {
+    pub fn with_lists(
+        mut self,
+        counters: usize,
+        kinds: usize,
+        verdicts: usize,
+        skips: usize,
+    ) -> Request {
         self.counters = counters;
         self.kinds = kinds;
         self.verdicts = verdicts;
+        self.skips = skips;
         self
     }
 }

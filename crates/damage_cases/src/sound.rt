@@ -69,7 +69,7 @@ fn step_time(step: u64) -> u64 {
 
 // A step's call: peer 9, a message of counter 5, and the local index of the initiation that a response or a cookie reply is for.
 fn step_request(step: u64) -> Request {
-    let mut request = good(step_call(step), step_time(step)).with_lists(1, 1, 1);
+    let mut request = good(step_call(step), step_time(step)).with_lists(1, 1, 1, 1);
     request.peer = 9;
     request.counter = 5;
     request.index = 257;
@@ -82,7 +82,8 @@ fn step_request(step: u64) -> Request {
 // The tunnel after a step.
 fn after(tunnel: Tunnel, step: u64, words: &mut [u64]) -> Tunnel {
     let mut verdicts = [0u8; 1025];
-    let answered = ask(tunnel, step_request(step), words, &mut verdicts);
+    let mut skips = [0u64; 1025];
+    let answered = ask(tunnel, step_request(step), words, &mut verdicts, &mut skips);
     answered.tunnel
 }
 

@@ -1,4 +1,4 @@
--- The example's call is live, and its verdicts are those that the batch's law gives.
+-- The example's call is live, and its verdicts and skips are those that the batch's law gives.
 -- Assumes nothing.
 use mathlib.Core.Path.{_≡_, refl, _∙_}
 use mathlib.Core.Bool.{true}
@@ -6,7 +6,7 @@ use mathlib.Core.List.{[], _∷_}
 use lib.ListN.{length}
 use Rattle.base.specs.Choice.{choose}
 use Rattle.window.specs.Window.{isInvalid}
-use Rattle.window.specs.History.{member, expected, judged}
+use Rattle.window.specs.History.{member, expected, judged, skippedAfter}
 use Rattle.sessions.specs.declared.sessions.Found.the-variants.{Got}
 use Rattle.sessions.specs.Index.{slotOf}
 use Rattle.sessions.specs.Store.{putSlot}
@@ -15,7 +15,7 @@ use Rattle.sessions.specs.Session.{newSession, emptySession, expiredAt}
 use Rattle.sessions.specs.Cases.{caseFound}
 use Rattle.sessions.specs.Sessions.{emptySlots, newSessions, inSlotOf, get, put, inserting, insert}
 use Rattle.sessions.specs.Batch.{known, fits, receivingSession}
-use Rattle.demands.specs.History.{verdictOn, recorded, verdictsOn, Stands}
+use Rattle.demands.specs.History.{verdictOn, skipOn, recorded, eachOn, verdictsOn, skipsOn, Stands}
 use Rattle.demands.specs.History.{BatchFor}
 use Rattle.demands.specs.BatchExample.{firstSession, firstHeld}
 use Rattle.demands.specs.BatchExample.{example, BatchExampleLaw}
@@ -45,7 +45,7 @@ found-first : receivingSession (firstHeld .sessions) 257 0 0 ≡ Got firstSessio
 unfolding firstHeld firstSession newSession newSessions emptySlots emptySession insert inserting put zeros inSlotOf get receivingSession expiredAt caseFound choose
 found-first = refl
 
-fits-first : fits (0 ∷ 5 ∷ 0 ∷ []) (0 ∷ 0 ∷ 0 ∷ []) (0 ∷ 0 ∷ 0 ∷ []) ≡ true
+fits-first : fits (0 ∷ 5 ∷ 0 ∷ []) (0 ∷ 0 ∷ 0 ∷ []) (0 ∷ 0 ∷ 0 ∷ []) (0 ∷ 0 ∷ 0 ∷ []) ≡ true
 unfolding fits known choose
 fits-first = refl
 
@@ -54,9 +54,18 @@ unfolding example
 live-first = record { eight = slots-first; size = store-first; batch = fits-first; found = found-first; stands = stands-first }
 
 judged-first : verdictsOn [] (0 ∷ 5 ∷ 0 ∷ []) (0 ∷ 0 ∷ 0 ∷ []) ≡ 0 ∷ 0 ∷ 10 ∷ []
-unfolding verdictsOn verdictOn recorded judged isInvalid expected member choose
+unfolding eachOn verdictOn recorded judged isInvalid expected member choose
 judged-first = refl
+
+skipped-first : skipsOn [] (0 ∷ 5 ∷ 0 ∷ []) (0 ∷ 0 ∷ 0 ∷ []) ≡ 0 ∷ 4 ∷ 0 ∷ []
+unfolding eachOn skipOn skippedAfter verdictOn recorded judged isInvalid expected member choose
+skipped-first = refl
 
 pub batch-example : BatchExampleLaw
 unfolding example
-batch-example = record { live = live-first; verdicts = batch-law example firstSession [] live-first .judges ∙ judged-first }
+batch-example =
+    record {
+      live = live-first;
+      verdicts = batch-law example firstSession [] live-first .judges ∙ judged-first;
+      skips = batch-law example firstSession [] live-first .skips ∙ skipped-first;
+    }

@@ -164,9 +164,9 @@ module _ (ins : List Insertion) (h : ℕ → List ℕ) (g : List Grant) (s : Ses
 
 -- a batch judged
 module _ (ins : List Insertion) (h : ℕ → List ℕ) (g : List Grant) (s : Sessions) (store : List ℕ) (w : Held ins h g s store) (index id now : ℕ)
-    (counters kinds verdicts : List ℕ) (x : Session) (fit : fits counters kinds verdicts ≡ true) (found : receivingSession s index id now ≡ Got x) where
+    (counters kinds verdicts skips : List ℕ) (x : Session) (fit : fits counters kinds verdicts skips ≡ true) (found : receivingSession s index id now ≡ Got x) where
   abbrev call : BatchCall
-  call = record { sessions = s; store = store; index = index; id = id; now = now; counters = counters; kinds = kinds; verdicts = verdicts }
+  call = record { sessions = s; store = store; index = index; id = id; now = now; counters = counters; kinds = kinds; verdicts = verdicts; skips = skips }
 
   in-slot : InSlot s index x
   in-slot = lookup-law s .receiving index id now x found .0

@@ -21,7 +21,7 @@ unfolding step
 sound-step w (start now) s = sound-law (w .tunnel) s .start now
 sound-step w (restart now) s = sound-law (w .tunnel) s .restart now
 sound-step w (send count now) s = sound-law (w .tunnel) s .send count now
-sound-step w (receive index id now counters kinds verdicts) s = sound-law (w .tunnel) s .receive (w .store) index id now counters kinds verdicts
+sound-step w (receive index id now counters kinds verdicts skips) s = sound-law (w .tunnel) s .receive (w .store) index id now counters kinds verdicts skips
 sound-step w (look index counter now) s = sound-law (w .tunnel) s .look (w .store) index counter now
 sound-step w (initiation peer outcome now) s = sound-law (w .tunnel) s .initiation (w .store) peer outcome now
 sound-step w (response receiver peer outcome now) s = sound-law (w .tunnel) s .response (w .store) receiver peer outcome now
@@ -49,7 +49,7 @@ unfolding step
 none-step w (start now) n = expired-law (w .tunnel) (w .store) n .start now
 none-step w (restart now) n = expired-law (w .tunnel) (w .store) n .restart now
 none-step w (send count now) n = expired-law (w .tunnel) (w .store) n .send count now
-none-step w (receive index id now counters kinds verdicts) n = expired-law (w .tunnel) (w .store) n .receive index id now counters kinds verdicts
+none-step w (receive index id now counters kinds verdicts skips) n = expired-law (w .tunnel) (w .store) n .receive index id now counters kinds verdicts skips
 none-step w (look index counter now) n = expired-law (w .tunnel) (w .store) n .look index counter now
 none-step w (initiation peer outcome now) n = expired-law (w .tunnel) (w .store) n .initiation peer outcome now
 none-step w (response receiver peer outcome now) n = expired-law (w .tunnel) (w .store) n .response receiver peer outcome now

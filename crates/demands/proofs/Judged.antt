@@ -1,4 +1,4 @@
--- A batch judged by a history: the verdicts that it gives are those that the history calls for, and its slot stands for the history afterwards.
+-- A batch judged by a history: the verdicts and skips that it gives are those that the history calls for, and its slot stands for the history afterwards.
 -- Assumes nothing.
 use mathlib.Core.Path.{_≡_, refl, ap, sym, _∙_}
 use mathlib.Core.Bool.{Bool, true, false, _||_}
@@ -10,8 +10,8 @@ use lib.ListN.{length, getD, set}
 use lib.Seq.{getD-set-same}
 use borrow.Author.Tests.{eqb-true, eqb-false, eq-eqb, ne-eqb}
 use Rattle.base.specs.Choice.{choose}
-use Rattle.window.specs.Window.{limit, willAccept, nextAfter, wordsAfter}
-use Rattle.window.specs.History.{member, expected, judged, Represents, commitTo}
+use Rattle.window.specs.Window.{limit, willAccept, nextAfter, wordsAfter, skippedBy}
+use Rattle.window.specs.History.{member, expected, judged, skippedAfter, Skips, Represents, commitTo}
 use Rattle.window.proofs.Laws.{fresh-law, judged-law, standing-law}
 use Rattle.sessions.specs.declared.batch.Progress.{Progress}
 use Rattle.sessions.specs.declared.session.Session.{Session}
@@ -22,7 +22,7 @@ use Rattle.base.specs.Lists.{zeros}
 use Rattle.sessions.specs.Session.{emptySession, withId, withReceivedData, withNext}
 use Rattle.sessions.specs.Cases.{caseFound}
 use Rattle.sessions.specs.Sessions.{slotAt, put, inserting, insert}
-use Rattle.demands.specs.History.{verdictOn, recorded, recordedAll, verdictsOn, Stands, VerdictLaw, BatchLaw, InsertedLaw, BatchCall, BatchFor}
+use Rattle.demands.specs.History.{verdictOn, skipOn, recorded, recordedAll, eachOn, verdictsOn, skipsOn, Stands, VerdictLaw, BatchLaw, InsertedLaw, BatchCall, BatchFor}
 use Rattle.sessions.proofs.Laws.{lookup-law, slot-law}
 use Rattle.sessions.specs.Laws.{InSlot}
 use Rattle.sessions.specs.Batch.{Batched, fits, receivingSession, finishReceivePacketData, finishAll, receive}
@@ -43,16 +43,17 @@ module _ (store : List ℕ) (x : Session) (counters kinds : List ℕ) where
   storeAfter = putSlot store (slotOf (x .«receiving_index»)) (batchOf .store)
 
 -- what a batch that is not turned down hands back
-pub receive-judged : (s : Sessions) (store : List ℕ) (index id now : ℕ) (counters kinds verdicts : List ℕ) (x : Session)
-    → length store ≡ 1024 → fits counters kinds verdicts ≡ true → receivingSession s index id now ≡ Got x
-    → receive s store index id now counters kinds verdicts
+pub receive-judged : (s : Sessions) (store : List ℕ) (index id now : ℕ) (counters kinds verdicts skips : List ℕ) (x : Session)
+    → length store ≡ 1024 → fits counters kinds verdicts skips ≡ true → receivingSession s index id now ≡ Got x
+    → receive s store index id now counters kinds verdicts skips
     ≡ record {
       out = Judged (sessionAfter store x counters kinds) (batchOf store x counters kinds .out);
       store = storeAfter store x counters kinds;
       verdicts = batchOf store x counters kinds .verdicts;
+      skips = batchOf store x counters kinds .skips;
     }
 unfolding receive caseFound choose
-receive-judged s store index id now counters kinds verdicts x l f g = rw (eq-eqb (length store) 1024 l, f, g)
+receive-judged s store index id now counters kinds verdicts skips x l f g = rw (eq-eqb (length store) 1024 l, f, g)
 
 -- one message
 module _ (history words : List ℕ) (p : Progress) (r : Represents history words (p .next)) (c k : ℕ) where
@@ -61,6 +62,9 @@ module _ (history words : List ℕ) (p : Progress) (r : Represents history words
 
   after-is : Represents (commitTo history c) (wordsAfter words (p .next) c) (nextAfter words (p .next) c)
   after-is = standing-law history words (p .next) r .stands c
+
+  skip-rule : skippedBy words (p .next) c ≡ skippedAfter history c
+  skip-rule = standing-law history words (p .next) r .skips c
 
   -- a refused counter adds nothing to the history
   stays : eqb (judged history c) 0 ≡ false → commitTo history c ≡ history
@@ -82,6 +86,12 @@ module _ (history words : List ℕ) (p : Progress) (r : Represents history words
   verdict-by false true e f = rw (e, rule, f) (sym (eqb-true (judged history c) 0 f))
   verdict-by false false e f = rw (e, rule, f)
 
+  skip-by : (b d : Bool) → eqb k 2 ≡ b → eqb (judged history c) 0 ≡ d → finishReceivePacketData words p c k .finished .skipped ≡ skipOn history c k
+  unfolding finishReceivePacketData skipOn skippedAfter choose
+  skip-by true d e f = rw e
+  skip-by false true e f = rw (e, rule, f) (skip-rule ∙ (unfold skippedAfter choose in rw f))
+  skip-by false false e f = rw (e, rule, f)
+
   stands-by : (b d : Bool) → eqb k 2 ≡ b → eqb (judged history c) 0 ≡ d
       → Represents (recorded history c (verdictOn history c k)) (finishReceivePacketData words p c k .words) (finishReceivePacketData words p c k .finished .progress .next)
   unfolding finishReceivePacketData choose
@@ -92,24 +102,28 @@ module _ (history words : List ℕ) (p : Progress) (r : Represents history words
   message-verdict : finishReceivePacketData words p c k .finished .verdict ≡ verdictOn history c k
   message-verdict = verdict-by (eqb k 2) (eqb (judged history c) 0) refl refl
 
+  message-skip : finishReceivePacketData words p c k .finished .skipped ≡ skipOn history c k
+  message-skip = skip-by (eqb k 2) (eqb (judged history c) 0) refl refl
+
   message-stands : Represents (recorded history c (verdictOn history c k)) (finishReceivePacketData words p c k .words) (finishReceivePacketData words p c k .finished .progress .next)
   message-stands = stands-by (eqb k 2) (eqb (judged history c) 0) refl refl
 
 -- the messages of a batch, in order
 judges-all : (history words : List ℕ) (p : Progress) → Represents history words (p .next) → (counters kinds : List ℕ)
-    → finishAll words p counters kinds .verdicts ≡ verdictsOn history counters kinds
-unfolding finishAll verdictsOn
-judges-all history words p r [] kinds = refl
-judges-all history words p r (c ∷ counters) [] = refl
+    → (finishAll words p counters kinds .verdicts ≡ verdictsOn history counters kinds) × (finishAll words p counters kinds .skips ≡ skipsOn history counters kinds)
+unfolding finishAll eachOn
+judges-all history words p r [] kinds = (refl, refl)
+judges-all history words p r (c ∷ counters) [] = (refl, refl)
 judges-all history words p r (c ∷ counters) (k ∷ kinds) =
-    rw (message-verdict history words p r c k)
-    (ap (λ (l : List ℕ). verdictOn history c k ∷ l)
-    (judges-all (recorded history c (verdictOn history c k)) (finishReceivePacketData words p c k .words) (finishReceivePacketData words p c k .finished .progress)
-    (message-stands history words p r c k) counters kinds))
+    let rest = judges-all (recorded history c (verdictOn history c k)) (finishReceivePacketData words p c k .words)
+    (finishReceivePacketData words p c k .finished .progress) (message-stands history words p r c k) counters kinds in (
+      rw (message-verdict history words p r c k) (ap (λ (l : List ℕ). verdictOn history c k ∷ l) (rest .0)),
+      rw (message-skip history words p r c k) (ap (λ (l : List ℕ). skipOn history c k ∷ l) (rest .1)),
+    )
 
 stands-all : (history words : List ℕ) (p : Progress) → Represents history words (p .next) → (counters kinds : List ℕ)
     → Represents (recordedAll history counters (verdictsOn history counters kinds)) (finishAll words p counters kinds .store) (finishAll words p counters kinds .out .next)
-unfolding finishAll recordedAll verdictsOn
+unfolding finishAll recordedAll eachOn
 stands-all history words p r [] kinds = r
 stands-all history words p r (c ∷ counters) [] = r
 stands-all history words p r (c ∷ counters) (k ∷ kinds) =
@@ -133,39 +147,46 @@ module _ (c : BatchCall) (x : Session) (history : List ℕ) (live : BatchFor c x
   begun : Represents history (slotWords (c .store) (slotOf (x .«receiving_index»))) (x .next)
   begun = rw (its .named, ← its .stored) (live .stands)
 
-  given : batchOf (c .store) x (c .counters) (c .kinds) .verdicts ≡ verdictsOn history (c .counters) (c .kinds)
+  given : (batchOf (c .store) x (c .counters) (c .kinds) .verdicts ≡ verdictsOn history (c .counters) (c .kinds))
+      × (batchOf (c .store) x (c .counters) (c .kinds) .skips ≡ skipsOn history (c .counters) (c .kinds))
   given = judges-all history (slotWords (c .store) (slotOf (x .«receiving_index»))) _ begun (c .counters) (c .kinds)
 
   pub judged-stands : Stands (recordedAll history (c .counters) (batchOf (c .store) x (c .counters) (c .kinds) .verdicts))
       (put (c .sessions) (sessionAfter (c .store) x (c .counters) (c .kinds))) (storeAfter (c .store) x (c .counters) (c .kinds)) (slotOf (x .«receiving_index»))
   unfolding put
   judged-stands =
-      rw given
+      rw (given .0)
       (put-stands _ (c .sessions) (put (c .sessions) (sessionAfter (c .store) x (c .counters) (c .kinds))) (c .store) _ (x .«receiving_index» % 8)
       (sessionAfter (c .store) x (c .counters) (c .kinds)) (live .eight) (live .size) (omega arith) refl
       (stands-all history (slotWords (c .store) (slotOf (x .«receiving_index»))) _ begun (c .counters) (c .kinds)))
 
   pub batch-law : BatchLaw c history
   batch-law =
-      let goes = receive-judged (c .sessions) (c .store) (c .index) (c .id) (c .now) (c .counters) (c .kinds) (c .verdicts) x (live .size) (live .batch) (live .found) in
+      let goes = receive-judged (c .sessions) (c .store) (c .index) (c .id) (c .now) (c .counters) (c .kinds) (c .verdicts) (c .skips) x (live .size) (live .batch) (live .found) in
       record {
         session = sessionAfter (c .store) x (c .counters) (c .kinds);
         progress = batchOf (c .store) x (c .counters) (c .kinds) .out;
         received = rw goes;
-        judges = rw goes given;
+        judges = rw goes (given .0);
+        skips = rw goes (given .1);
         stands = rw (goes, ← its .named) judged-stands;
       }
 
 -- a verdict of 0 exactly where document 01 says
 pub verdict-law : (history : List ℕ) (c k : ℕ) → VerdictLaw history c k
-unfolding verdictOn choose
+unfolding verdictOn skipOn choose
 verdict-law history c k =
     record {
       commits = λ opened l near unseen. rw (ne-eqb k 2 opened) (judged-law history c .commits l near unseen);
       only = λ z. only-by (eqb k 2) refl z;
       failed = λ e. rw (eq-eqb k 2 e);
+      skips = skips-of (eqb k 2) refl;
     }
   where
+    skips-of : (b : Bool) → eqb k 2 ≡ b → Skips (expected history) c (verdictOn history c k) (skipOn history c k)
+    skips-of true e = rw e (record { ahead = λ z l. absurd (omega arith); behind = λ z l. refl; refused = λ z. refl })
+    skips-of false e = rw e (judged-law history c .skips)
+
     only-by : (b : Bool) → eqb k 2 ≡ b → verdictOn history c k ≡ 0
         → (k ≡ 2 → ⊥) × (c < limit) × (expected history ≤ c + 8192) × (member c history ≡ false)
     only-by true e z = absurd (let seven : 7 ≡ 0 = rw e at z in omega arith)

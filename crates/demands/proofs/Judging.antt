@@ -51,7 +51,7 @@ pub data Judged (c : Control) (store : List ℕ) (id : ℕ) (counters : List ℕ
       → ((y : ℕ) → (y ≡ id → ⊥) → i y ≡ h y) → Known ins i g k polls (b .out .control) (b .store))
       → Judged c store id counters b
 
-module _ (c : Control) (store : List ℕ) (index id now : ℕ) (counters kinds verdicts : List ℕ) where
+module _ (c : Control) (store : List ℕ) (index id now : ℕ) (counters kinds verdicts skips : List ℕ) where
   -- what the control makes of what the sessions hand back
   abbrev made : Batched Received → Batched Out
   made b =
@@ -59,35 +59,36 @@ module _ (c : Control) (store : List ℕ) (index id now : ℕ) (counters kinds v
         out = caseReceived (b .out) (λ number. refuse c number) (λ x p. done (accept c x p index now) Done);
         store = b .store;
         verdicts = b .verdicts;
+        skips = b .skips;
       }
 
-  rejected : (number : ℕ) → (number ≡ 0 → ⊥) → Judged c store id counters (made (untouched (Rejected number) store verdicts))
+  rejected : (number : ℕ) → (number ≡ 0 → ⊥) → Judged c store id counters (made (untouched (Rejected number) store verdicts skips))
   unfolding caseReceived refuse
   rejected number d = turned number refl d (idle-refused c store number)
 
-  judged : (x : Session) → length store ≡ 1024 → fits counters kinds verdicts ≡ true → receivingSession (c .sessions) index id now ≡ Got x
-      → Judged c store id counters (made (receive (c .sessions) store index id now counters kinds verdicts))
+  judged : (x : Session) → length store ≡ 1024 → fits counters kinds verdicts skips ≡ true → receivingSession (c .sessions) index id now ≡ Got x
+      → Judged c store id counters (made (receive (c .sessions) store index id now counters kinds verdicts skips))
   unfolding caseReceived done
   judged x size fit found =
-      rw (receive-judged (c .sessions) store index id now counters kinds verdicts x size fit found)
+      rw (receive-judged (c .sessions) store index id now counters kinds verdicts skips x size fit found)
       (taken refl
       (λ ins h i g k polls w mine others.
       known-accept ins i g k polls c _ _ _ index now
       (record {
-        held = held-judged ins h g (c .sessions) store (w .held) index id now counters kinds verdicts x fit found i mine others;
+        held = held-judged ins h g (c .sessions) store (w .held) index id now counters kinds verdicts skips x fit found i mine others;
         queue = w .queue;
       })))
 
-  of-batch : (full fit : Bool) (found : Found) → whole store ≡ full → fits counters kinds verdicts ≡ fit → receivingSession (c .sessions) index id now ≡ found
-      → Judged c store id counters (made (receive (c .sessions) store index id now counters kinds verdicts))
+  of-batch : (full fit : Bool) (found : Found) → whole store ≡ full → fits counters kinds verdicts skips ≡ fit → receivingSession (c .sessions) index id now ≡ found
+      → Judged c store id counters (made (receive (c .sessions) store index id now counters kinds verdicts skips))
   unfolding receive caseFound choose
   of-batch false fit found a b e = rw a (rejected 2 (λ z. omega arith))
   of-batch true false found a b e = rw (a, b) (rejected 2 (λ z. omega arith))
   of-batch true true Nothing a b e = rw (a, b, e) (rejected 12 (λ z. omega arith))
   of-batch true true (Got x) a b e = judged x (eqb-true _ _ a) b e
 
-  pub judged-batch : Judged c store id counters (commitDecapsulate c store index id now counters kinds verdicts)
+  pub judged-batch : Judged c store id counters (commitDecapsulate c store index id now counters kinds verdicts skips)
   unfolding commitDecapsulate refuse
   judged-batch =
       of-choice (λ (b : Batched Out). Judged c store id counters b) _ _ _ (turned 11 refl (λ z. omega arith) (idle-refused c store 11))
-      (of-batch (whole store) (fits counters kinds verdicts) (receivingSession (c .sessions) index id now) refl refl refl)
+      (of-batch (whole store) (fits counters kinds verdicts skips) (receivingSession (c .sessions) index id now) refl refl refl)

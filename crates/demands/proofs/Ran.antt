@@ -77,7 +77,7 @@ unfolding ran step callStart callRestart callSend callReceive callLook callIniti
 ran-step w (start now) u = took-plain (w .tunnel) (w .store) u _ now _
 ran-step w (restart now) u = took-plain (w .tunnel) (w .store) u _ now _
 ran-step w (send count now) u = took-plain (w .tunnel) (w .store) u _ now _
-ran-step w (receive index id now counters kinds verdicts) u = took-is (w .tunnel) (w .store) u _ now _ _
+ran-step w (receive index id now counters kinds verdicts skips) u = took-is (w .tunnel) (w .store) u _ now _ _
 ran-step w (look index counter now) u = took-plain (w .tunnel) (w .store) u _ now _
 ran-step w (initiation peer outcome now) u = took-is (w .tunnel) (w .store) u _ now _ _
 ran-step w (response receiver peer outcome now) u = took-is (w .tunnel) (w .store) u _ now _ _

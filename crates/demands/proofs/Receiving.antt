@@ -17,7 +17,7 @@ use Rattle.demands.proofs.Gated.{gate-open, expired-control, control-al
 use Rattle.demands.proofs.Grown.{grown}
 use Rattle.demands.proofs.Changes.{batch-judged}
 use Rattle.demands.proofs.Known.{Known}
-use Rattle.demands.proofs.Verdicts.{long-verdicts, each-verdict}
+use Rattle.demands.proofs.Verdicts.{long-each, each-verdict}
 use Rattle.demands.specs.Calls.{World, step, after, created}
 use Rattle.demands.specs.Receiving.{Batch, receiving, Live, Judges, Receiving, OnlyLive}
 use Rattle.demands.specs.Made.{Insertion}
@@ -26,7 +26,7 @@ use lib.Dec.{eqb}
 use Rattle.sessions.proofs.Laws.{fits-law, lookup-law}
 use Rattle.sessions.specs.Laws.{IsBatch, InSlot}
 use Rattle.sessions.specs.Batch.{fits, receivingSession, receive, Batched}
-use Rattle.demands.specs.History.{recordedAll, verdictsOn, BatchLaw, BatchCall}
+use Rattle.demands.specs.History.{recordedAll, verdictsOn, skipsOn, BatchLaw, BatchCall}
 use Rattle.sessions.specs.Cases.{caseReceived, caseFound}
 use Rattle.sessions.specs.Index.{slotOf}
 use Rattle.sessions.specs.Sessions.{slotAt}
@@ -42,21 +42,21 @@ use Rattle.tunnel.specs.Answer.{numberOf}
 use Rattle.tunnel.specs.Damage.{undamaged}
 
 -- lists that make a batch are let through by number 2, and only those
-module _ (store counters kinds verdicts : List ℕ) where
-  batch-good : length store ≡ 1024 → IsBatch counters kinds verdicts → badBatch store counters kinds verdicts ≡ false
+module _ (store counters kinds verdicts skips : List ℕ) where
+  batch-good : length store ≡ 1024 → IsBatch counters kinds verdicts skips → badBatch store counters kinds verdicts skips ≡ false
   unfolding badBatch lacking choose
-  batch-good l y = rw (eq-eqb (length store) 1024 l, fits-law counters kinds verdicts .fitting y) refl
+  batch-good l y = rw (eq-eqb (length store) 1024 l, fits-law counters kinds verdicts skips .fitting y) refl
 
   good-whole : (b f : Bool) → eqb (length store) 1024 ≡ b → choose (choose b false true) true (choose f false true) ≡ false → length store ≡ 1024
   unfolding choose
   good-whole true f p q = eqb-true _ _ p
   good-whole false f p q = absurd (true≢false q)
 
-  good-batch : badBatch store counters kinds verdicts ≡ false → (length store ≡ 1024) × IsBatch counters kinds verdicts
+  good-batch : badBatch store counters kinds verdicts skips ≡ false → (length store ≡ 1024) × IsBatch counters kinds verdicts skips
   unfolding badBatch lacking
   good-batch e = (
     good-whole (eqb (length store) 1024) _ refl e,
-    fits-law counters kinds verdicts .batch (no-fault (lacking store) (fits counters kinds verdicts) e),
+    fits-law counters kinds verdicts skips .batch (no-fault (lacking store) (fits counters kinds verdicts skips) e),
   )
 
 -- a live batch
@@ -65,14 +65,21 @@ module _ (w : World) (u : undamaged (w .tunnel) ≡ true) (ins : List Insertion)
   abbrev s : Sessions
   s = w .tunnel .control .sessions
 
-  lists : IsBatch (b .counters) (b .kinds) (b .verdicts)
-  lists = record { kinds-long = live .kinds-long; verdicts-long = live .verdicts-long; most = live .most; known = live .known }
+  lists : IsBatch (b .counters) (b .kinds) (b .verdicts) (b .skips)
+  lists =
+      record {
+        kinds-long = live .kinds-long;
+        verdicts-long = live .verdicts-long;
+        skips-long = live .skips-long;
+        most = live .most;
+        known = live .known;
+      }
 
-  fit : fits (b .counters) (b .kinds) (b .verdicts) ≡ true
-  fit = fits-law (b .counters) (b .kinds) (b .verdicts) .fitting lists
+  fit : fits (b .counters) (b .kinds) (b .verdicts) (b .skips) ≡ true
+  fit = fits-law (b .counters) (b .kinds) (b .verdicts) (b .skips) .fitting lists
 
-  passes : gate (w .tunnel) (badBatch (w .store) (b .counters) (b .kinds) (b .verdicts)) (b .now) ≡ 0
-  passes = gate-open (w .tunnel) _ (b .now) u (batch-good (w .store) (b .counters) (b .kinds) (b .verdicts) (live .whole) lists) (live .timely) (live .onward)
+  passes : gate (w .tunnel) (badBatch (w .store) (b .counters) (b .kinds) (b .verdicts) (b .skips)) (b .now) ≡ 0
+  passes = gate-open (w .tunnel) _ (b .now) u (batch-good (w .store) (b .counters) (b .kinds) (b .verdicts) (b .skips) (live .whole) lists) (live .timely) (live .onward)
 
   alive : expiredControl (w .tunnel .control) ≡ false
   alive = control-alive w u (live .alive)
@@ -99,14 +106,15 @@ module _ (w : World) (u : undamaged (w .tunnel) ≡ true) (ins : List Insertion)
         counters = b .counters;
         kinds = b .kinds;
         verdicts = b .verdicts;
+        skips = b .skips;
       }
 
   law : BatchLaw call (h (b .id))
-  law = batch-judged ins h g s (w .store) (y .held) (b .index) (b .id) (b .now) (b .counters) (b .kinds) (b .verdicts) (slotAt s slot) fit its
+  law = batch-judged ins h g s (w .store) (y .held) (b .index) (b .id) (b .now) (b .counters) (b .kinds) (b .verdicts) (b .skips) (slotAt s slot) fit its
 
   -- what the call hands back
   abbrev out : Batched Out
-  out = commitDecapsulate (w .tunnel .control) (w .store) (b .index) (b .id) (b .now) (b .counters) (b .kinds) (b .verdicts)
+  out = commitDecapsulate (w .tunnel .control) (w .store) (b .index) (b .id) (b .now) (b .counters) (b .kinds) (b .verdicts) (b .skips)
 
   answer-is : out .out .answer ≡ Done
   unfolding commitDecapsulate caseReceived done choose
@@ -116,6 +124,10 @@ module _ (w : World) (u : undamaged (w .tunnel) ≡ true) (ins : List Insertion)
   unfolding commitDecapsulate choose
   list-is = rw alive (law .judges)
 
+  skip-list-is : out .skips ≡ skipsOn (h (b .id)) (b .counters) (b .kinds)
+  unfolding commitDecapsulate choose
+  skip-list-is = rw alive (law .skips)
+
   good : numberOf (step w (receiving b) .answer) ≡ 0
   unfolding step callReceive timedBatch timed settled choose numberOf
   good = rw (passes, answer-is) refl
@@ -124,13 +136,20 @@ module _ (w : World) (u : undamaged (w .tunnel) ≡ true) (ins : List Insertion)
   unfolding step callReceive timedBatch kept choose
   verdicts-are = rw passes list-is
 
+  skips-are : step w (receiving b) .skips ≡ skipsOn (h (b .id)) (b .counters) (b .kinds)
+  unfolding step callReceive timedBatch kept choose
+  skips-are = rw passes skip-list-is
+
   long : length (step w (receiving b) .verdicts) ≡ length (b .counters)
-  long = ap length verdicts-are ∙ long-verdicts (h (b .id)) (b .counters) (b .kinds) (live .kinds-long)
+  long = ap length verdicts-are ∙ long-each _ (h (b .id)) (b .counters) (b .kinds) (live .kinds-long)
+
+  skips-long : length (step w (receiving b) .skips) ≡ length (b .counters)
+  skips-long = ap length skips-are ∙ long-each _ (h (b .id)) (b .counters) (b .kinds) (live .kinds-long)
 
   judges : (i : ℕ) → i < length (b .counters)
       → Judges (recordedAll (h (b .id)) (take i (b .counters)) (take i (step w (receiving b) .verdicts))) (getD (b .counters) i 0) (getD (b .kinds) i 0)
-      (getD (step w (receiving b) .verdicts) i 0)
-  judges i l = rw verdicts-are (each-verdict i (h (b .id)) (b .counters) (b .kinds) (live .kinds-long) l)
+      (getD (step w (receiving b) .verdicts) i 0) (getD (step w (receiving b) .skips) i 0)
+  judges i l = rw (verdicts-are, skips-are) (each-verdict i (h (b .id)) (b .counters) (b .kinds) (live .kinds-long) l)
 
 pub receiving-law : Receiving
 receiving-law c good-creation calls few b slot live =
@@ -139,13 +158,14 @@ receiving-law c good-creation calls few b slot live =
     record {
       good = good (after (created c) calls) u _ _ _ _ _ y b slot live;
       long = long (after (created c) calls) u _ _ _ _ _ y b slot live;
+      skips-long = skips-long (after (created c) calls) u _ _ _ _ _ y b slot live;
       judges = judges (after (created c) calls) u _ _ _ _ _ y b slot live;
     }
 
 -- a batch that is answered good
 module _ (w : World) (u : undamaged (w .tunnel) ≡ true) (b : Batch) where
   abbrev bad : Bool
-  bad = badBatch (w .store) (b .counters) (b .kinds) (b .verdicts)
+  bad = badBatch (w .store) (b .counters) (b .kinds) (b .verdicts) (b .skips)
 
   abbrev came : Found
   came = receivingSession (w .tunnel .control .sessions) (b .index) (b .id) (b .now)
@@ -158,7 +178,7 @@ module _ (w : World) (u : undamaged (w .tunnel) ≡ true) (b : Batch) where
     found : came ≡ Got session
 
   good-passes : (opens ended whole fit : Bool) (found : Found) → eqb (gate (w .tunnel) bad (b .now)) 0 ≡ opens
-      → expiredControl (w .tunnel .control) ≡ ended → eqb (length (w .store)) 1024 ≡ whole → fits (b .counters) (b .kinds) (b .verdicts) ≡ fit → came ≡ found
+      → expiredControl (w .tunnel .control) ≡ ended → eqb (length (w .store)) 1024 ≡ whole → fits (b .counters) (b .kinds) (b .verdicts) (b .skips) ≡ fit → came ≡ found
       → numberOf (step w (receiving b) .answer) ≡ 0 → Passes
   unfolding step callReceive timedBatch timed settled refused commitDecapsulate refuse receive caseReceived caseFound numberOf choose
   good-passes false ended whole fit found p q r f e z = absurd (eqb-false _ 0 p (rw p at z))
@@ -171,8 +191,8 @@ module _ (w : World) (u : undamaged (w .tunnel) ≡ true) (b : Batch) where
   only : numberOf (step w (receiving b) .answer) ≡ 0 → (slot : ℕ) × Live w b slot
   only z =
       let p : Passes = good-passes _ _ _ _ _ refl refl refl refl refl z in
-      let l : (length (w .store) ≡ 1024) × IsBatch (b .counters) (b .kinds) (b .verdicts) =
-      good-batch (w .store) (b .counters) (b .kinds) (b .verdicts) (gate-law (w .tunnel) bad (b .now) .good (p .opened)) in
+      let l : (length (w .store) ≡ 1024) × IsBatch (b .counters) (b .kinds) (b .verdicts) (b .skips) =
+      good-batch (w .store) (b .counters) (b .kinds) (b .verdicts) (b .skips) (gate-law (w .tunnel) bad (b .now) .good (p .opened)) in
       let i = lookup-law (w .tunnel .control .sessions) .receiving (b .index) (b .id) (b .now) (p .session) (p .found) in (
         slotOf (b .index),
         record {
@@ -180,6 +200,7 @@ module _ (w : World) (u : undamaged (w .tunnel) ≡ true) (b : Batch) where
           whole = l .0;
           kinds-long = l .1 .kinds-long;
           verdicts-long = l .1 .verdicts-long;
+          skips-long = l .1 .skips-long;
           most = l .1 .most;
           known = l .1 .known;
           onward = gate-law (w .tunnel) bad (b .now) .onward (p .opened);

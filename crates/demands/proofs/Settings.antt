@@ -12,7 +12,7 @@ unfolding step
 setting-same w (start now) = setting-law (w .tunnel) (w .store) .start now
 setting-same w (restart now) = setting-law (w .tunnel) (w .store) .restart now
 setting-same w (send count now) = setting-law (w .tunnel) (w .store) .send count now
-setting-same w (receive index id now counters kinds verdicts) = setting-law (w .tunnel) (w .store) .receive index id now counters kinds verdicts
+setting-same w (receive index id now counters kinds verdicts skips) = setting-law (w .tunnel) (w .store) .receive index id now counters kinds verdicts skips
 setting-same w (look index counter now) = setting-law (w .tunnel) (w .store) .look index counter now
 setting-same w (initiation peer outcome now) = setting-law (w .tunnel) (w .store) .initiation peer outcome now
 setting-same w (response receiver peer outcome now) = setting-law (w .tunnel) (w .store) .response receiver peer outcome now

@@ -166,9 +166,9 @@ module _ (ins : List Insertion) (h : ℕ → List ℕ) (g k : List Grant) (polls
         queue = v .queue;
       }
 
-  module _ (index id now : ℕ) (counters kinds verdicts : List ℕ) where
+  module _ (index id now : ℕ) (counters kinds verdicts skips : List ℕ) where
     abbrev batch : Call
-    batch = receive index id now counters kinds verdicts
+    batch = receive index id now counters kinds verdicts skips
 
     -- turned down
     next-turned : (reply : Reply) (number : ℕ) → reply .answer ≡ No number → (number ≡ 0 → ⊥)
@@ -196,6 +196,7 @@ module _ (ins : List Insertion) (h : ℕ → List ℕ) (g k : List Grant) (polls
           world = record { tunnel = settled (w .tunnel) now (b .out) .tunnel; store = b .store };
           answer = settled (w .tunnel) now (b .out) .answer;
           verdicts = b .verdicts;
+          skips = b .skips;
         })
     unfolding settled
     of-batch b (turned number e d i) = next-turned _ number e d (i .known ins h g k polls y)
@@ -208,6 +209,7 @@ module _ (ins : List Insertion) (h : ℕ → List ℕ) (g k : List Grant) (polls
           out = choose (eqb number 0) (settled (w .tunnel) now (b .out)) (refused (w .tunnel) number);
           store = choose (eqb number 0) (b .store) (w .store);
           verdicts = choose (eqb number 0) (b .verdicts) verdicts;
+          skips = choose (eqb number 0) (b .skips) skips;
         }
 
     of-framed : (f : Bool) (number : ℕ) (b : Batched Out) → eqb number 0 ≡ f → Judged (w .tunnel .control) (w .store) id counters b
@@ -218,7 +220,7 @@ module _ (ins : List Insertion) (h : ℕ → List ℕ) (g k : List Grant) (polls
 
     next-receive : Next ins h g k polls w batch (step w batch)
     unfolding step callReceive timedBatch timed kept framed
-    next-receive = of-framed _ (gate (w .tunnel) _ now) _ refl (judged-batch (w .tunnel .control) (w .store) index id now counters kinds verdicts)
+    next-receive = of-framed _ (gate (w .tunnel) _ now) _ refl (judged-batch (w .tunnel .control) (w .store) index id now counters kinds verdicts skips)
 
   -- what a call with a store hands back, by the number of its checks
   framed-turn : (now number : ℕ) (t : Turn) → Called
@@ -362,7 +364,7 @@ module _ (ins : List Insertion) (h : ℕ → List ℕ) (g k : List Grant) (polls
   next s (start now) few = next-start now
   next s (restart now) few = next-restart now
   next s (send count now) few = next-send count now
-  next s (receive index id now counters kinds verdicts) few = next-receive index id now counters kinds verdicts
+  next s (receive index id now counters kinds verdicts skips) few = next-receive index id now counters kinds verdicts skips
   next s (look index counter now) few = next-look index counter now
   next s (initiation peer outcome now) few = next-initiation now peer outcome few
   next s (response receiver peer outcome now) few = next-response now s receiver peer outcome few

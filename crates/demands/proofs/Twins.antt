@@ -155,7 +155,7 @@ module _ {latest : ℕ} {p w : World} (h : Twins latest p w) (u : undamaged (p .
   plain-pair : (a b : Answered) → AnsweredAlike latest a b → Pair latest (plain (p .store) a) (plain (w .store) b)
   plain-pair a b k =
       record {
-        same = record { answers = equal-alike _ _ _ (k .answer); verdicts = refl; stores = h .store };
+        same = record { answers = equal-alike _ _ _ (k .answer); verdicts = refl; skips = refl; stores = h .store };
         twins = record { tunnels = k .tunnels; store = h .store };
       }
 
@@ -166,19 +166,20 @@ module _ {latest : ℕ} {p w : World} (h : Twins latest p w) (u : undamaged (p .
       let k = timed-alike (h .tunnels) u v bad now l is (turn .out) (shall .out) b (ap (λ (x : Turn). x .out) e) in
       let s = kept-alike (h .tunnels) u v bad now l is (p .store) (turn .store) (w .store) (shall .store) b (h .store) (ap (λ (x : Turn). x .store) e) in
       record {
-        same = record { answers = equal-alike _ _ _ (k .answer); verdicts = refl; stores = s };
+        same = record { answers = equal-alike _ _ _ (k .answer); verdicts = refl; skips = refl; stores = s };
         twins = record { tunnels = k .tunnels; store = s };
       }
 
-  batch-pair : (bad is : Bool) (now : ℕ) (verdicts : List ℕ) (batch shall : Batched Out) → latest ≤ now → bad ≡ is → batch ≡ shall
-      → Pair latest (batched (timedBatch (p .tunnel) bad now (p .store) verdicts batch)) (batched (timedBatch (w .tunnel) is now (w .store) verdicts shall))
+  batch-pair : (bad is : Bool) (now : ℕ) (verdicts skips : List ℕ) (batch shall : Batched Out) → latest ≤ now → bad ≡ is → batch ≡ shall
+      → Pair latest (batched (timedBatch (p .tunnel) bad now (p .store) verdicts skips batch)) (batched (timedBatch (w .tunnel) is now (w .store) verdicts skips shall))
   unfolding timedBatch
-  batch-pair bad is now verdicts batch shall l b e =
+  batch-pair bad is now verdicts skips batch shall l b e =
       let k = timed-alike (h .tunnels) u v bad now l is (batch .out) (shall .out) b (ap (λ (x : Batched Out). x .out) e) in
       let s = kept-alike (h .tunnels) u v bad now l is (p .store) (batch .store) (w .store) (shall .store) b (h .store) (ap (λ (x : Batched Out). x .store) e) in
       let z = kept-alike (h .tunnels) u v bad now l is verdicts (batch .verdicts) verdicts (shall .verdicts) b refl (ap (λ (x : Batched Out). x .verdicts) e) in
+      let j = kept-alike (h .tunnels) u v bad now l is skips (batch .skips) skips (shall .skips) b refl (ap (λ (x : Batched Out). x .skips) e) in
       record {
-        same = record { answers = equal-alike _ _ _ (k .answer); verdicts = z; stores = s };
+        same = record { answers = equal-alike _ _ _ (k .answer); verdicts = z; skips = j; stores = s };
         twins = record { tunnels = k .tunnels; store = s };
       }
 
@@ -198,6 +199,7 @@ module _ {latest : ℕ} {p w : World} (h : Twins latest p w) (u : undamaged (p .
                   (let a = undamaged-law .facts (p .tunnel) u .updated in let b = h .tunnels .older in omega arith)
                   (undamaged-law .facts (w .tunnel) v .updated));
               verdicts = refl;
+              skips = refl;
               stores = h .store;
             };
         twins = record { tunnels = rw (deadline-still (p .tunnel) u, deadline-still (w .tunnel) v) (h .tunnels); store = h .store };
@@ -209,9 +211,9 @@ module _ {latest : ℕ} {p w : World} (h : Twins latest p w) (u : undamaged (p .
   calls-alike (start now) l = timed-pair _ _ now _ _ (l now refl) refl (ap (λ (c : Control). startHandshake c now) (h .tunnels .control))
   calls-alike (restart now) l = timed-pair _ _ now _ _ (l now refl) refl (ap (λ (c : Control). restartHandshake c now) (h .tunnels .control))
   calls-alike (send count now) l = timed-pair _ _ now _ _ (l now refl) refl (ap (λ (c : Control). encapsulate.send c count now) (h .tunnels .control))
-  calls-alike (receive index id now counters kinds verdicts) l =
-      batch-pair _ _ now verdicts _ _ (l now refl) (ap (λ (s : List ℕ). badBatch s counters kinds verdicts) (h .store))
-      (ap₂ (λ (c : Control) (s : List ℕ). decapsulate.commitDecapsulate c s index id now counters kinds verdicts) (h .tunnels .control) (h .store))
+  calls-alike (receive index id now counters kinds verdicts skips) l =
+      batch-pair _ _ now verdicts skips _ _ (l now refl) (ap (λ (s : List ℕ). badBatch s counters kinds verdicts skips) (h .store))
+      (ap₂ (λ (c : Control) (s : List ℕ). decapsulate.commitDecapsulate c s index id now counters kinds verdicts skips) (h .tunnels .control) (h .store))
   calls-alike (look index counter now) l =
       timed-pair _ _ now _ _ (l now refl) (ap lacking (h .store))
       (ap₂ (λ (c : Control) (s : List ℕ). decapsulate.beginDecapsulate c s index counter now) (h .tunnels .control) (h .store))

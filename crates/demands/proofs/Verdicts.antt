@@ -1,4 +1,4 @@
--- The verdicts that a history calls for on the messages of a batch, said case by case.
+-- The verdicts and skips that a history calls for on the messages of a batch, said case by case.
 -- Assumes nothing.
 use mathlib.Core.Path.{_≡_, refl, ap, _∙_}
 use mathlib.Core.Bool.{Bool, true}
@@ -11,7 +11,7 @@ use Rattle.base.specs.Choice.{choose}
 use Rattle.base.proofs.Choice.{of-choice}
 use Rattle.demands.specs.Receiving.{Judges}
 use Rattle.demands.proofs.Judged.{verdict-law}
-use Rattle.demands.specs.History.{verdictOn, recordedAll, verdictsOn, VerdictLaw}
+use Rattle.demands.specs.History.{verdictOn, skipOn, recordedAll, eachOn, verdictsOn, skipsOn, VerdictLaw}
 use Rattle.window.specs.History.{member, expected, judged}
 use Rattle.window.specs.Window.{limit, isInvalid}
 
@@ -37,7 +37,7 @@ module _ (history : List ℕ) (counter kind : ℕ) where
   unfolding judged isInvalid choose
   valid-again a b m = rw (lt-leb limit counter a, le-ltb _ _ b, m)
 
-  judges-verdict : Judges history counter kind (verdictOn history counter kind)
+  judges-verdict : Judges history counter kind (verdictOn history counter kind) (skipOn history counter kind)
   judges-verdict =
       let law : VerdictLaw history counter kind = verdict-law history counter kind in
       record {
@@ -47,19 +47,22 @@ module _ (history : List ℕ) (counter kind : ℕ) where
         behind = λ d l. opened d ∙ invalid (invalid-behind l);
         again = λ d a b m. opened d ∙ valid-again a b m;
         failed = law .failed;
+        skips = law .skips;
       }
 
--- the verdicts that a history calls for are as many as the messages, and each is called for by the history with the messages before it
-pub long-verdicts : (history counters kinds : List ℕ) → length kinds ≡ length counters → length (verdictsOn history counters kinds) ≡ length counters
-unfolding verdictsOn
-long-verdicts history [] kinds e = refl
-long-verdicts history (c ∷ counters) [] e = absurd (omega (arith, e))
-long-verdicts history (c ∷ counters) (k ∷ kinds) e = ap suc (long-verdicts _ counters kinds (omega (arith, e)))
+-- there are as many as messages, and each is called for by the history with the messages before it
+pub long-each : (rule : List ℕ → (counter kind : ℕ) → ℕ) (history counters kinds : List ℕ) → length kinds ≡ length counters
+    → length (eachOn rule history counters kinds) ≡ length counters
+unfolding eachOn
+long-each rule history [] kinds e = refl
+long-each rule history (c ∷ counters) [] e = absurd (omega (arith, e))
+long-each rule history (c ∷ counters) (k ∷ kinds) e = ap suc (long-each rule _ counters kinds (omega (arith, e)))
 
 pub each-verdict : (i : ℕ) (history counters kinds : List ℕ) → length kinds ≡ length counters → i < length counters
     → Judges (recordedAll history (take i counters) (take i (verdictsOn history counters kinds))) (getD counters i 0) (getD kinds i 0)
     (getD (verdictsOn history counters kinds) i 0)
-unfolding verdictsOn recordedAll
+    (getD (skipsOn history counters kinds) i 0)
+unfolding eachOn recordedAll
 each-verdict i history [] kinds e l = absurd (omega arith)
 each-verdict i history (c ∷ counters) [] e l = absurd (omega (arith, e))
 each-verdict zero history (c ∷ counters) (k ∷ kinds) e l = judges-verdict history c k

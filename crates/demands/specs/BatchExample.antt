@@ -29,9 +29,11 @@ example =
       counters = 0 ∷ 5 ∷ 0 ∷ [];
       kinds = 0 ∷ 0 ∷ 0 ∷ [];
       verdicts = 0 ∷ 0 ∷ 0 ∷ [];
+      skips = 0 ∷ 0 ∷ 0 ∷ [];
     }
 
--- The call is for a live session with an empty history, and its verdicts are 0, 0 and 10.
+-- The call is for a live session with an empty history, its verdicts are 0, 0 and 10, and its skips 0, 4 and 0.
 pub record BatchExampleLaw : Type 0 where
   pub live : BatchFor example firstSession []
   pub verdicts : receives example .verdicts ≡ 0 ∷ 0 ∷ 10 ∷ []
+  pub skips : receives example .skips ≡ 0 ∷ 4 ∷ 0 ∷ []

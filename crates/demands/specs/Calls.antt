@@ -13,7 +13,7 @@ use Rattle.tunnel.specs.declared.tunnel.Tunnel.{Tunnel}
 pub data Call : Type 0 where
   start restart : (now : ℕ) → Call
   send : (count now : ℕ) → Call
-  receive : (index id now : ℕ) (counters kinds verdicts : List ℕ) → Call
+  receive : (index id now : ℕ) (counters kinds verdicts skips : List ℕ) → Call
   look : (index counter now : ℕ) → Call
   initiation : (peer outcome now : ℕ) → Call
   response : (receiver peer outcome now : ℕ) → Call
@@ -27,15 +27,16 @@ pub record World : Type 0 where
   pub tunnel : Tunnel
   pub store : List ℕ
 
--- what a call hands back: the tunnel and the store, the answer, and the verdict list of a batch
+-- what a call hands back: the tunnel and the store, the answer, and the verdict list and the skip list of a batch
 pub record Reply : Type 0 where
   pub world : World
   pub answer : Answer
   pub verdicts : List ℕ
+  pub skips : List ℕ
 
 -- what a call without a store hands back
 abbrev pub plain : List ℕ → Answered → Reply
-plain store a = record { world = record { tunnel = a .tunnel; store = store }; answer = a .answer; verdicts = [] }
+plain store a = record { world = record { tunnel = a .tunnel; store = store }; answer = a .answer; verdicts = []; skips = [] }
 
 -- what a call with a store hands back
 abbrev pub stored : Called → Reply
@@ -44,15 +45,15 @@ stored c = plain (c .store) (c .answered)
 -- what a batch hands back
 abbrev pub batched : Batched Answered → Reply
 batched c =
-    record { world = record { tunnel = c .out .tunnel; store = c .store }; answer = c .out .answer; verdicts = c .verdicts }
+    record { world = record { tunnel = c .out .tunnel; store = c .store }; answer = c .out .answer; verdicts = c .verdicts; skips = c .skips }
 
 -- what a call hands back
 unfoldable pub step : World → Call → Reply
 step w (start now) = plain (w .store) (callStart (w .tunnel) now)
 step w (restart now) = plain (w .store) (callRestart (w .tunnel) now)
 step w (send count now) = plain (w .store) (callSend (w .tunnel) count now)
-step w (receive index id now counters kinds verdicts) =
-    batched (callReceive (w .tunnel) (w .store) index id now counters kinds verdicts)
+step w (receive index id now counters kinds verdicts skips) =
+    batched (callReceive (w .tunnel) (w .store) index id now counters kinds verdicts skips)
 step w (look index counter now) = plain (w .store) (callLook (w .tunnel) (w .store) index counter now)
 step w (initiation peer outcome now) = stored (callInitiation (w .tunnel) (w .store) peer outcome now)
 step w (response receiver peer outcome now) = stored (callResponse (w .tunnel) (w .store) receiver peer outcome now)

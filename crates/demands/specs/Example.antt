@@ -27,9 +27,9 @@ calls =
     -- counters 1, 2 and 3 to data
     ∷ send 3 2000000
     -- 0 and 5 commit, 0 again is a replay
-    ∷ receive 257 0 3000000 (0 ∷ 5 ∷ 0 ∷ []) (0 ∷ 0 ∷ 0 ∷ []) (0 ∷ 0 ∷ 0 ∷ [])
+    ∷ receive 257 0 3000000 (0 ∷ 5 ∷ 0 ∷ []) (0 ∷ 0 ∷ 0 ∷ []) (0 ∷ 0 ∷ 0 ∷ []) (0 ∷ 0 ∷ 0 ∷ [])
     -- 8,960 commits and clears the window
-    ∷ receive 257 0 4000000 (8960 ∷ []) (0 ∷ []) (0 ∷ [])
+    ∷ receive 257 0 4000000 (8960 ∷ []) (0 ∷ []) (0 ∷ []) (0 ∷ [])
     -- ten seconds after data without a reply: a keepalive with counter 4
     ∷ timeout 0 10004000000
     -- the confirmation of the session is polled
@@ -39,25 +39,27 @@ calls =
 unfoldable pub here : World
 here = after (created creation) calls
 
--- one counter too far behind, one committed, one at the window's edge, and a message that failed to open
+-- one counter too far behind, one committed, one at the window's edge, a message that failed to open, and one ahead of it and of 38 more
 unfoldable pub batch : Batch
 batch =
     record {
       index = 257;
       id = 0;
       now = 11000000000;
-      counters = 768 ∷ 8960 ∷ 769 ∷ 8961 ∷ [];
-      kinds = 0 ∷ 0 ∷ 1 ∷ 2 ∷ [];
-      verdicts = 0 ∷ 0 ∷ 0 ∷ 0 ∷ [];
+      counters = 768 ∷ 8960 ∷ 769 ∷ 8961 ∷ 9000 ∷ [];
+      kinds = 0 ∷ 0 ∷ 1 ∷ 2 ∷ 0 ∷ [];
+      verdicts = 0 ∷ 0 ∷ 0 ∷ 0 ∷ 0 ∷ [];
+      skips = 0 ∷ 0 ∷ 0 ∷ 0 ∷ 0 ∷ [];
     }
 
--- The premises hold, and the session's history, grants, verdicts, keepalive, sends and missing report are these.
+-- The premises hold, and the session's history, grants, verdicts, skips, keepalive, sends and missing report are these.
 pub record ExampleLaw : Type 0 where
   pub good : Good creation
   pub few : insertions (made (created creation) calls) < 2 ^ 64
   pub live : Live here batch 1
   pub history : historyOf 0 (created creation) calls ≡ 8960 ∷ 5 ∷ 0 ∷ []
-  pub verdicts : step here (receiving batch) .verdicts ≡ 9 ∷ 10 ∷ 0 ∷ 7 ∷ []
+  pub verdicts : step here (receiving batch) .verdicts ≡ 9 ∷ 10 ∷ 0 ∷ 7 ∷ 0 ∷ []
+  pub skips : step here (receiving batch) .skips ≡ 0 ∷ 0 ∷ 0 ∷ 0 ∷ 39 ∷ []
   -- session 0 was inserted by the response, to this tunnel's own initiation
   pub messages : inserted (made (created creation) calls) ≡ insertion true 9 1000000 ∷ []
   pub counters : countersOf 0 (grants (made (created creation) calls)) ≡ 0 ∷ 1 ∷ 2 ∷ 3 ∷ 4 ∷ []

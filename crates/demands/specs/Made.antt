@@ -31,7 +31,7 @@ made w (call ∷ calls) = making w call ∷ made (step w call .world) calls
 module _ {A : Type 0} where
   -- one value for each batch's session id and counters, one for every other call
   unfoldable pub caseBatch : Call → (ℕ → List ℕ → A) → A → A
-  caseBatch (receive index id now counters kinds verdicts) f x = f id counters
+  caseBatch (receive index id now counters kinds verdicts skips) f x = f id counters
   caseBatch (start now) f x = x
   caseBatch (restart now) f x = x
   caseBatch (send count now) f x = x
@@ -50,7 +50,7 @@ module _ {A : Type 0} where
   caseWaking (start now) y x = x
   caseWaking (restart now) y x = x
   caseWaking (send count now) y x = x
-  caseWaking (receive index id now counters kinds verdicts) y x = x
+  caseWaking (receive index id now counters kinds verdicts skips) y x = x
   caseWaking (look index counter now) y x = x
   caseWaking (initiation peer outcome now) y x = x
   caseWaking (response receiver peer outcome now) y x = x
@@ -66,7 +66,7 @@ module _ {A : Type 0} where
   caseMessage (start now) f g x = x
   caseMessage (restart now) f g x = x
   caseMessage (send count now) f g x = x
-  caseMessage (receive index id now counters kinds verdicts) f g x = x
+  caseMessage (receive index id now counters kinds verdicts skips) f g x = x
   caseMessage (look index counter now) f g x = x
   caseMessage (cookie receiver outcome now) f g x = x
   caseMessage (timeout jitter now) f g x = x

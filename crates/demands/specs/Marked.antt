@@ -72,7 +72,7 @@ initiated = start 0 ∷ response 257 9 0 0 ∷ []
 
 -- a session of a handshake that peer 9 began, established at time 0 and selected by its first message
 unfoldable pub responded : List Call
-responded = initiation 9 0 0 ∷ receive 257 0 0 (0 ∷ []) (0 ∷ []) (0 ∷ []) ∷ []
+responded = initiation 9 0 0 ∷ receive 257 0 0 (0 ∷ []) (0 ∷ []) (0 ∷ []) (0 ∷ []) ∷ []
 
 -- a marked case
 pub data Case : Type 0 where

@@ -12,7 +12,7 @@ use Rattle.demands.specs.Calls.{Call, World, Reply, step, after, Creatio
 use Rattle.demands.specs.Made.{Made, made, caseBatch, insertions}
 use Rattle.demands.specs.History.{recordedAll}
 use Rattle.sessions.specs.Sessions.{slotAt}
-use Rattle.window.specs.History.{member, expected}
+use Rattle.window.specs.History.{member, expected, Skips}
 
 -- a session's history with what a call committed there: the counters that a batch for this session id, answered good, gave verdict 0
 unfoldable pub committing : ℕ → List ℕ → Call → Reply → List ℕ
@@ -38,10 +38,11 @@ pub record Batch : Type 0 where
   pub counters : List ℕ
   pub kinds : List ℕ
   pub verdicts : List ℕ
+  pub skips : List ℕ
 
 -- the call of a batch
 abbrev pub receiving : Batch → Call
-receiving b = receive (b .index) (b .id) (b .now) (b .counters) (b .kinds) (b .verdicts)
+receiving b = receive (b .index) (b .id) (b .now) (b .counters) (b .kinds) (b .verdicts) (b .skips)
 
 -- live, word by word: the checks 1, 2 and 13 let the call through, as 14 does every tunnel from a creation (`Grown`), the tunnel is not
 -- expired, a filled slot holds the given local index and session id, and its age is below 180 s
@@ -50,6 +51,7 @@ pub record Live (w : World) (b : Batch) (slot : ℕ) : Type 0 where
   pub whole : length (w .store) ≡ 1024
   pub kinds-long : length (b .kinds) ≡ length (b .counters)
   pub verdicts-long : length (b .verdicts) ≡ length (b .counters)
+  pub skips-long : length (b .skips) ≡ length (b .counters)
   pub most : length (b .counters) ≤ 1024
   pub known : (i : ℕ) → i < length (b .kinds) → getD (b .kinds) i 0 ≤ 2
   pub onward : w .tunnel .greatest ≤ b .now
@@ -61,7 +63,7 @@ pub record Live (w : World) (b : Batch) (slot : ℕ) : Type 0 where
   pub age : b .now - slotAt (w .tunnel .control .sessions) slot .«established_at» < 180000000000
 
 -- What a session with this history answers to a message of this counter and kind (2: it failed to open):
-pub record Judges (history : List ℕ) (counter kind verdict : ℕ) : Type 0 where
+pub record Judges (history : List ℕ) (counter kind verdict skipped : ℕ) : Type 0 where
   -- 0 if it opened and its counter is below 2^64 - 8,193, at most 8,192 behind the next expected one and never committed before
   pub commits : (kind ≡ 2 → ⊥) → counter < 2 ^ 64 - 8193 → expected history ≤ counter + 8192 → member counter history ≡ false → verdict ≡ 0
   -- and only then
@@ -73,18 +75,22 @@ pub record Judges (history : List ℕ) (counter kind verdict : ℕ) : Type 0 whe
   pub again : (kind ≡ 2 → ⊥) → counter < 2 ^ 64 - 8193 → expected history ≤ counter + 8192 → member counter history ≡ true → verdict ≡ 10
   -- 7 if it failed to open
   pub failed : kind ≡ 2 → verdict ≡ 7
+  -- where it commits ahead, it skips the counters from the next expected one up to its own, else none
+  pub skips : Skips (expected history) counter verdict skipped
 
--- A batch for a live session is answered good, with one verdict for each message; each is judged by the session's history after the calls so
--- far and the batch's earlier messages.
+-- A batch for a live session is answered good, with one verdict and one skip for each message; each is judged by the session's history after the
+-- calls so far and the batch's earlier messages.
 pub record ReceivingLaw (w : World) (calls : List Call) (b : Batch) : Type 0 where
   pub good : numberOf (step (after w calls) (receiving b) .answer) ≡ 0
   pub long : length (step (after w calls) (receiving b) .verdicts) ≡ length (b .counters)
+  pub skips-long : length (step (after w calls) (receiving b) .skips) ≡ length (b .counters)
   pub judges : (i : ℕ) → i < length (b .counters)
       → Judges
       (recordedAll (historyOf (b .id) w calls) (take i (b .counters)) (take i (step (after w calls) (receiving b) .verdicts)))
       (getD (b .counters) i 0)
       (getD (b .kinds) i 0)
       (getD (step (after w calls) (receiving b) .verdicts) i 0)
+      (getD (step (after w calls) (receiving b) .skips) i 0)
 
 -- For every creation that is not turned down, every list of calls with fewer than 2^64 insertions and every batch for a live session.
 abbrev pub Receiving : Type 0

@@ -64,10 +64,10 @@ unfoldable pub ran : Ran → Call → Ran
 ran r (start now) = took r false now (startHandshake (r .control) now) (r .store)
 ran r (restart now) = took r false now (restartHandshake (r .control) now) (r .store)
 ran r (send count now) = took r (eqb count 0) now (encapsulate.send (r .control) count now) (r .store)
-ran r (receive index id now counters kinds verdicts) =
-    took r (badBatch (r .store) counters kinds verdicts) now
-    (decapsulate.commitDecapsulate (r .control) (r .store) index id now counters kinds verdicts .out)
-    (decapsulate.commitDecapsulate (r .control) (r .store) index id now counters kinds verdicts .store)
+ran r (receive index id now counters kinds verdicts skips) =
+    took r (badBatch (r .store) counters kinds verdicts skips) now
+    (decapsulate.commitDecapsulate (r .control) (r .store) index id now counters kinds verdicts skips .out)
+    (decapsulate.commitDecapsulate (r .control) (r .store) index id now counters kinds verdicts skips .store)
 ran r (look index counter now) =
     took r (lacking (r .store)) now (decapsulate.beginDecapsulate (r .control) (r .store) index counter now) (r .store)
 ran r (initiation peer outcome now) =
@@ -109,7 +109,7 @@ unfoldable pub timeOf : Call → Time
 timeOf (start now) = At now
 timeOf (restart now) = At now
 timeOf (send count now) = At now
-timeOf (receive index id now counters kinds verdicts) = At now
+timeOf (receive index id now counters kinds verdicts skips) = At now
 timeOf (look index counter now) = At now
 timeOf (initiation peer outcome now) = At now
 timeOf (response receiver peer outcome now) = At now
@@ -149,10 +149,11 @@ pub data Alike (latest : ℕ) : Answer → Answer → Type 0 where
   equal : (answer : Answer) → Alike latest answer answer
   come : (a b : ℕ) → a ≤ latest → b ≤ latest → Alike latest (Deadline (At a)) (Deadline (At b))
 
--- a call gives both tunnels the same answer, verdicts and store; the latest time given is the woken tunnel's greatest time
+-- a call gives both tunnels the same answer, verdicts, skips and store; the latest time given is the woken tunnel's greatest time
 pub record Same (plain woken : Reply) : Type 0 where
   pub answers : Alike (woken .world .tunnel .greatest) (plain .answer) (woken .answer)
   pub verdicts : plain .verdicts ≡ woken .verdicts
+  pub skips : plain .skips ≡ woken .skips
   pub stores : plain .world .store ≡ woken .world .store
 
 -- every shared call gives both tunnels the same

@@ -12,6 +12,8 @@ use script::log_line::LogCall;
 use script::log_line::call_log;
 use script::log_line::first_log;
 use script::log_line::put_log;
+use script::skips::Skips;
+use script::skips::skips_after;
 use text::gather::Gathered;
 use text::gather::newline;
 use tunnel::answer::Answer;
@@ -31,6 +33,7 @@ struct Console {
 // What the program holds from turn to turn.
 struct Progress {
     tunnel: Tunnel,
+    skips: Skips,
     log: Log,
     console: Console,
 }
@@ -84,6 +87,8 @@ fn answer(
     line: Line,
     answer: Answer,
     verdicts: &[u8],
+    skips: Skips,
+    list: &[u64],
     bytes: &[u8],
     out: &mut [u8],
 ) -> Console {
@@ -91,7 +96,7 @@ fn answer(
     Console {
         started: starts_with(console.started, line),
         gathered: Gathered::new(),
-        written: put_line(out, at, line, answer, verdicts, bytes),
+        written: put_line(out, at, line, answer, verdicts, skips, list, bytes),
     }
 }
 
@@ -101,14 +106,27 @@ fn settle(
     answered: Answered,
     asked: Line,
     verdicts: &[u8],
+    list: &[u64],
     bytes: &[u8],
     out: &mut [u8],
 ) -> Progress {
     let tunnel = answered.tunnel;
     let reply = answered.answer;
-    let after = answer(progress.console, asked, reply, verdicts, bytes, out);
+    let before = progress.skips;
+    let skips = skips_after(before, asked, reply);
+    let after = answer(
+        progress.console,
+        asked,
+        reply,
+        verdicts,
+        skips,
+        list,
+        bytes,
+        out,
+    );
     Progress {
         tunnel,
+        skips,
         console: after,
         ..progress
     }
@@ -145,6 +163,7 @@ fn end_line(
     line: &[u8; 65536],
     bytes: &mut [u8; 32768],
     store: &mut [u64; 1024],
+    list: &mut [u64; 1025],
     log: &mut [u8; 70000],
     out: &mut [u8; 262144],
 ) -> Progress {
@@ -163,8 +182,9 @@ fn end_line(
         &counters,
         &kinds,
         &mut verdicts,
+        list,
     );
-    settle(progress, answered, asked, &verdicts, bytes, out)
+    settle(progress, answered, asked, &verdicts, list, bytes, out)
 }
 
 // The console with the bytes up to the next newline.
@@ -183,6 +203,7 @@ fn take_part(
     line: &mut [u8; 65536],
     bytes: &mut [u8; 32768],
     store: &mut [u64; 1024],
+    list: &mut [u64; 1025],
     log: &mut [u8; 70000],
     out: &mut [u8; 262144],
 ) -> Progress {
@@ -194,7 +215,7 @@ fn take_part(
             return progress;
         }
         at = end + 1;
-        progress = end_line(progress, line, bytes, store, log, out);
+        progress = end_line(progress, line, bytes, store, list, log, out);
     }
     progress
 }
@@ -243,13 +264,14 @@ fn take_input(
     line: &mut [u8; 65536],
     bytes: &mut [u8; 32768],
     store: &mut [u64; 1024],
+    list: &mut [u64; 1025],
     log: &mut [u8; 70000],
     out: &mut [u8; 262144],
 ) -> Progress
     requires { ⌜ came ≤ length (now input) ⌝ }
 {
     let n = to_take(progress.console, came, input);
-    progress = take_part(progress, &input[..n], line, bytes, store, log, out);
+    progress = take_part(progress, &input[..n], line, bytes, store, list, log, out);
     progress.console = emptied(progress.console, out);
     progress
 }
@@ -262,13 +284,14 @@ fn take_all(
     line: &mut [u8; 65536],
     bytes: &mut [u8; 32768],
     store: &mut [u64; 1024],
+    list: &mut [u64; 1025],
     log: &mut [u8; 70000],
     out: &mut [u8; 262144],
 ) {
     let mut turns = u64::MAX;
     while turns > 0 {
         let came = read_input(input);
-        progress = take_input(progress, came, input, line, bytes, store, log, out);
+        progress = take_input(progress, came, input, line, bytes, store, list, log, out);
         if came == 0 {
             return;
         }
@@ -287,6 +310,7 @@ fn fresh(store: &mut [u64]) -> Progress {
     };
     Progress {
         tunnel,
+        skips: Skips::Nothing,
         log: first_log(),
         console,
     }
@@ -298,6 +322,7 @@ fn main() {
     let mut bytes = [0u8; 32768];
     let mut out = [0u8; 262144];
     let mut store = [0u64; 1024];
+    let mut list = [0u64; 1025];
     let mut log = [0u8; 70000];
     let progress = fresh(&mut store);
     take_all(
@@ -306,6 +331,7 @@ fn main() {
         &mut line,
         &mut bytes,
         &mut store,
+        &mut list,
         &mut log,
         &mut out,
     );

@@ -2,6 +2,8 @@
 use crate::datagram::put_datagram;
 use crate::datagram::put_header;
 use crate::line::Line;
+use crate::skips::Skips;
+use crate::skips::put_skips;
 use sessions::range::Range;
 use sessions::range::Split;
 use sessions::session::Time;
@@ -233,6 +235,8 @@ fn put_reply(
     line: Line,
     answer: Answer,
     verdicts: &[u8],
+    skips: Skips,
+    list: &[u64],
     bytes: &[u8],
 ) -> usize {
     if let Line::Recv {
@@ -251,6 +255,9 @@ fn put_reply(
     } = line {
         return put_cut(out, at, peer, first, len, cut);
     }
+    if let Line::Skips = line {
+        return put_skips(out, at, skips, list);
+    }
     if let Line::Datagram { len } = line {
         return put_datagram(out, at, len, bytes);
     }
@@ -267,8 +274,10 @@ pub fn put_line(
     line: Line,
     answer: Answer,
     verdicts: &[u8],
+    skips: Skips,
+    list: &[u64],
     bytes: &[u8],
 ) -> usize {
-    let end = put_reply(out, at, line, answer, verdicts, bytes);
+    let end = put_reply(out, at, line, answer, verdicts, skips, list, bytes);
     put(out, end, b'\n')
 }

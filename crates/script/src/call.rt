@@ -55,8 +55,8 @@ fn call_session(tunnel: Tunnel, call: SessionCall, store: &mut [u64]) -> Answere
 }
 
 // How many places a batch takes of each list: one for each message, or none where a list has too few.
-fn places(messages: usize, counters: &[u64], kinds: &[u8], verdicts: &[u8]) -> usize
-    ensures { λ r. ⌜ Places r (length (now (counters .entry))) (length (now (kinds .entry))) (length (now (verdicts .entry))) ⌝ }
+fn places(messages: usize, counters: &[u64], kinds: &[u8], verdicts: &[u8], skips: &[u64]) -> usize
+    ensures { λ r. ⌜ Places r (length (now (counters .entry))) (length (now (kinds .entry))) (length (now (verdicts .entry))) (length (now (skips .entry))) ⌝ }
 {
     if messages > counters.len() {
         return 0;
@@ -65,6 +65,9 @@ fn places(messages: usize, counters: &[u64], kinds: &[u8], verdicts: &[u8]) -> u
         return 0;
     }
     if messages > verdicts.len() {
+        return 0;
+    }
+    if messages > skips.len() {
         return 0;
     }
     messages
@@ -81,8 +84,9 @@ fn call_receive(
     counters: &[u64],
     kinds: &[u8],
     verdicts: &mut [u8],
+    skips: &mut [u64],
 ) -> Answered {
-    let n = places(messages, counters, kinds, verdicts);
+    let n = places(messages, counters, kinds, verdicts, skips);
     tunnel.receive(
         store,
         index,
@@ -91,11 +95,12 @@ fn call_receive(
         &counters[..n],
         &kinds[..n],
         &mut verdicts[..n],
+        &mut skips[..n],
     )
 }
 
-// Makes a line's call. A line that cannot be read is turned down; a split, a datagram, a header and the log ask nothing of the
-// tunnel.
+// Makes a line's call. A line that cannot be read is turned down; a split, the skips, a datagram, a header and the log ask nothing
+// of the tunnel.
 pub fn call(
     tunnel: Tunnel,
     line: Line,
@@ -103,6 +108,7 @@ pub fn call(
     counters: &[u64],
     kinds: &[u8],
     verdicts: &mut [u8],
+    skips: &mut [u64],
 ) -> Answered {
     match line {
         Line::Unreadable => return Answered {
@@ -132,6 +138,7 @@ pub fn call(
                 counters,
                 kinds,
                 verdicts,
+                skips,
             );
         }
         Line::Split {
@@ -140,6 +147,7 @@ pub fn call(
             len: _,
             at: _,
         }
+        | Line::Skips
         | Line::Datagram { len: _ }
         | Line::Header {
             receiver: _,

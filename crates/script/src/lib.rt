@@ -8,3 +8,4 @@ pub mod messages;
 pub mod name;
 pub mod numbers;
 pub mod reports;
+pub mod skips;

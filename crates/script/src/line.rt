@@ -74,6 +74,7 @@ pub enum Line {
         len: u64,
         at: u64,
     },
+    Skips,
     // The datagram stands in the list that was lent: its first so many bytes.
     Datagram {
         len: usize,
@@ -166,6 +167,7 @@ fn line_of(name: Name, n: Numbers, held: usize) -> Line {
             len: n.third,
             at: n.fourth,
         },
+        Name::Skips => Line::Skips,
         Name::Datagram => Line::Datagram { len: held },
         Name::Header => Line::Header {
             receiver: index,

@@ -18,6 +18,7 @@ pub enum Name {
     Next,
     Missing,
     Split,
+    Skips,
     Datagram,
     Header,
     Store,
@@ -95,6 +96,9 @@ fn question_name(word: &[u8]) -> Name {
     }
     if same(word, b"split") {
         return Name::Split;
+    }
+    if same(word, b"skips") {
+        return Name::Skips;
     }
     datagram_name(word)
 }

@@ -12,7 +12,7 @@ use lib.Seq.{drop-cons, take-suc-set, take-all, append-snoc}
 use borrow.Author.Tests.{eq-eqb, ne-eqb}
 use borrow.Rule.Slice.PartMut.{putMid}
 use Rattle.base.specs.Choice.{choose}
-use Rattle.window.specs.Window.{willAccept, nextAfter, wordsAfter, markDidReceive, Marks}
+use Rattle.window.specs.Window.{willAccept, nextAfter, wordsAfter, skippedBy, markDidReceive, Marks}
 use Rattle.window.specs.declared.Marked.{Marked}
 use Rattle.sessions.specs.declared.batch.Progress.{Progress}
 use Rattle.sessions.specs.declared.batch.Finished.{Finished}
@@ -67,7 +67,7 @@ module _ (words : List ℕ) (progress : Progress) (counter kind : ℕ) where
   Finishes answer left =
       Leaves answer (finishReceivePacketData words progress counter kind .finished) left (finishReceivePacketData words progress counter kind .words)
 
-  pub opening-failed : kind ≡ 2 → Finishes (record { verdict = 7; progress = progress }) words
+  pub opening-failed : kind ≡ 2 → Finishes (record { verdict = 7; skipped = 0; progress = progress }) words
   unfolding finishReceivePacketData choose
   opening-failed h = rw (eq-eqb kind 2 h) (record { out = refl; words = refl })
 
@@ -75,6 +75,10 @@ module _ (words : List ℕ) (progress : Progress) (counter kind : ℕ) where
     verdict-is : marked .verdict ≡ willAccept words (progress .next) counter
     unfolding markDidReceive
     verdict-is = ap (λ (x : Marked). x .verdict) (m .out)
+
+    skipped-is : marked .skipped ≡ skippedBy words (progress .next) counter
+    unfolding markDidReceive
+    skipped-is = ap (λ (x : Marked). x .skipped) (m .out)
 
     next-is : marked .next ≡ nextAfter words (progress .next) counter
     unfolding markDidReceive
@@ -88,109 +92,127 @@ module _ (words : List ℕ) (progress : Progress) (counter kind : ℕ) where
       unfolding wordsAfter choose
       words-stay = m .left ∙ rw other
 
-      pub not-taken : Finishes (record { verdict = marked .verdict; progress = progress }) last
+      pub not-taken : Finishes (record { verdict = marked .verdict; skipped = 0; progress = progress }) last
       unfolding finishReceivePacketData choose
       not-taken = rw (ne-eqb kind 2 opened, other) (record { out = rw verdict-is; words = words-stay })
 
     taken : (is : Bool) → marked .verdict ≡ 0 → is ≡ choose (eqb kind 0) true (progress .«data»)
-        → Finishes (record { verdict = 0; progress = record { next = marked .next; accepted = true; «data» = is } }) last
+        → Finishes (record { verdict = 0; skipped = marked .skipped; progress = record { next = marked .next; accepted = true; «data» = is } }) last
     unfolding finishReceivePacketData
     taken is h e =
         rw (ne-eqb kind 2 opened, eq-eqb (willAccept words (progress .next) counter) 0 (sym verdict-is ∙ h))
-        (record { out = unfold choose in rw (next-is, e); words = unfold choose in m .left })
+        (record { out = unfold choose in rw (next-is, skipped-is, e); words = unfold choose in m .left })
 
     pub taken-data : marked .verdict ≡ 0 → kind ≡ 0
-        → Finishes (record { verdict = 0; progress = record { next = marked .next; accepted = true; «data» = true } }) last
+        → Finishes (record { verdict = 0; skipped = marked .skipped; progress = record { next = marked .next; accepted = true; «data» = true } }) last
     taken-data h k = taken true h (unfold choose in rw (eq-eqb kind 0 k))
 
     pub taken-keepalive : marked .verdict ≡ 0 → (kind ≡ 0 → ⊥)
-        → Finishes (record { verdict = 0; progress = record { next = marked .next; accepted = true; «data» = progress .«data» } }) last
+        → Finishes (record { verdict = 0; skipped = marked .skipped; progress = record { next = marked .next; accepted = true; «data» = progress .«data» } }) last
     taken-keepalive h k = taken (progress .«data») h (unfold choose in rw (ne-eqb kind 0 k))
 
 -- the message at a place of the lists
-pub message-done : (words : List ℕ) (progress : Progress) (counters kinds verdicts : List ℕ) (i : ℕ) (last : List ℕ) (f : Finished)
+pub message-done : (words : List ℕ) (progress : Progress) (counters kinds verdicts skips : List ℕ) (i : ℕ) (last : List ℕ) (f : Finished)
     → Leaves f (finishReceivePacketData words progress (getD counters i 0) (getD kinds i 0) .finished)
     last (finishReceivePacketData words progress (getD counters i 0) (getD kinds i 0) .words)
-    → LeavesBatch (finishAt words progress counters kinds verdicts i)
-    (record { next = f .progress .next; accepted = f .progress .accepted; «data» = f .progress .«data» }) last (set verdicts i (f .verdict))
-message-done words progress counters kinds verdicts i last f l =
-    record { out = ap (λ (x : Finished). x .progress) (l .out); words = l .words; list = ap (λ (x : Finished). set verdicts i (x .verdict)) (l .out) }
+    → LeavesBatch (finishAt words progress counters kinds verdicts skips i)
+    (record { next = f .progress .next; accepted = f .progress .accepted; «data» = f .progress .«data» }) last (set verdicts i (f .verdict)) (set skips i (f .skipped))
+message-done words progress counters kinds verdicts skips i last f l =
+    record {
+      out = ap (λ (x : Finished). x .progress) (l .out);
+      words = l .words;
+      list = ap (λ (x : Finished). set verdicts i (x .verdict)) (l .out);
+      skip-list = ap (λ (x : Finished). set skips i (x .skipped)) (l .out);
+    }
 
--- what a batch comes to with verdicts given before
-abbrev pub preceded : List ℕ → Batched Progress → Batched Progress
-preceded verdicts b = record { out = b .out; store = b .store; verdicts = verdicts ++ b .verdicts }
+-- what a batch comes to with verdicts and skips given before
+abbrev pub preceded : (verdicts skips : List ℕ) → Batched Progress → Batched Progress
+preceded verdicts skips b = record { out = b .out; store = b .store; verdicts = verdicts ++ b .verdicts; skips = skips ++ b .skips }
 
--- a batch under way: what it comes to is the verdicts given so far and what is left to do
-pub record Going (came : List ℕ) (start : Progress) (counters kinds : List ℕ) (words verdicts : List ℕ) (progress : Progress) (i : ℕ) : Type 0 where
+-- a batch under way: what it comes to is the verdicts and the skips given so far and what is left to do
+pub record Going (came : List ℕ) (start : Progress) (counters kinds : List ℕ) (words verdicts skips : List ℕ) (progress : Progress) (i : ℕ) : Type 0 where
   pub within : i ≤ length counters
   pub kinds-long : length kinds ≡ length counters
   pub verdicts-long : length verdicts ≡ length counters
+  pub skips-long : length skips ≡ length counters
   pub words-long : length words ≡ length came
-  pub rest : finishAll came start counters kinds ≡ preceded (take i verdicts) (finishAll words progress (drop i counters) (drop i kinds))
+  pub rest : finishAll came start counters kinds ≡ preceded (take i verdicts) (take i skips) (finishAll words progress (drop i counters) (drop i kinds))
 
 module _ (came : List ℕ) (start : Progress) (counters kinds : List ℕ) where
-  pub batch-begins : (verdicts : List ℕ) → length kinds ≡ length counters → length verdicts ≡ length counters
-      → Going came start counters kinds came verdicts start 0
-  batch-begins verdicts k v = record { within = omega arith; kinds-long = k; verdicts-long = v; words-long = refl; rest = refl }
+  pub batch-begins : (verdicts skips : List ℕ) → length kinds ≡ length counters → length verdicts ≡ length counters → length skips ≡ length counters
+      → Going came start counters kinds came verdicts skips start 0
+  batch-begins verdicts skips k v j =
+      record { within = omega arith; kinds-long = k; verdicts-long = v; skips-long = j; words-long = refl; rest = refl }
 
-  module _ (words verdicts : List ℕ) (progress : Progress) (i : ℕ) (g : Going came start counters kinds words verdicts progress i) where
+  module _ (words verdicts skips : List ℕ) (progress : Progress) (i : ℕ) (g : Going came start counters kinds words verdicts skips progress i) where
     abbrev message : Message
     message = finishReceivePacketData words progress (getD counters i 0) (getD kinds i 0)
 
     -- the next message in front of the rest
     next-message : i < length counters → finishAll words progress (drop i counters) (drop i kinds)
-        ≡ preceded (message .finished .verdict ∷ []) (finishAll (message .words) (message .finished .progress) (drop (suc i) counters) (drop (suc i) kinds))
+        ≡ preceded (message .finished .verdict ∷ []) (message .finished .skipped ∷ []) (finishAll (message .words) (message .finished .progress) (drop (suc i) counters) (drop (suc i) kinds))
     unfolding finishAll
     next-message h = rw (drop-cons counters i 0 h, drop-cons kinds i 0 (omega (arith, g .kinds-long)))
 
-    pub batch-turn : (last given : List ℕ) (next : Progress) → i < length counters → LeavesBatch (finishAt words progress counters kinds verdicts i) next last given
-        → length last ≡ length words → Going came start counters kinds last given next (i + 1)
-    batch-turn last given next h f same =
+    pub batch-turn : (last given passed : List ℕ) (next : Progress) → i < length counters → LeavesBatch (finishAt words progress counters kinds verdicts skips i) next last given passed
+        → length last ≡ length words → Going came start counters kinds last given passed next (i + 1)
+    batch-turn last given passed next h f same =
         record {
           within = omega arith;
           kinds-long = g .kinds-long;
           verdicts-long = ap length (f .list) ∙ simp length-set (g .verdicts-long);
+          skips-long = ap length (f .skip-list) ∙ simp length-set (g .skips-long);
           words-long = same ∙ g .words-long;
-          rest = g .rest ∙ ap (preceded (take i verdicts)) (next-message h)
-              ∙ rw (add-one, ← f .out, ← f .words, f .list, take-suc-set verdicts i _ (omega (arith, g .verdicts-long)), append-snoc);
+          rest = g .rest ∙ ap (preceded (take i verdicts) (take i skips)) (next-message h)
+              ∙ rw (
+                add-one,
+                ← f .out,
+                ← f .words,
+                f .list,
+                f .skip-list,
+                take-suc-set verdicts i _ (omega (arith, g .verdicts-long)),
+                take-suc-set skips i _ (omega (arith, g .skips-long)),
+                append-snoc,
+                append-snoc,
+              );
         }
 
-    pub batch-ends : length counters ≤ i → LeavesBatch (finishAll came start counters kinds) progress words verdicts
+    pub batch-ends : length counters ≤ i → LeavesBatch (finishAll came start counters kinds) progress words verdicts skips
     unfolding finishAll
     batch-ends h =
-        let done : finishAll came start counters kinds ≡ record { out = progress; store = words; verdicts = verdicts } =
-        g .rest ∙ rw (drop-of-length-le counters {i = i} h, take-all i verdicts (omega (arith, g .verdicts-long)), append-nil) in
-        record { out = rw done; words = rw done; list = rw done }
+        let done : finishAll came start counters kinds ≡ record { out = progress; store = words; verdicts = verdicts; skips = skips } =
+        g .rest ∙ rw (drop-of-length-le counters {i = i} h, take-all i verdicts (omega (arith, g .verdicts-long)), take-all i skips (omega (arith, g .skips-long)), append-nil, append-nil) in
+        record { out = rw done; words = rw done; list = rw done; skip-list = rw done }
 
 -- the whole call
-module _ (s : Sessions) (store : List ℕ) (index id now : ℕ) (counters kinds verdicts : List ℕ) where
-  -- the answer, the words and the verdicts of a batch
-  abbrev Receives : Received → (left given : List ℕ) → Type 0
-  Receives answer left given = LeavesBatch (receive s store index id now counters kinds verdicts) answer left given
+module _ (s : Sessions) (store : List ℕ) (index id now : ℕ) (counters kinds verdicts skips : List ℕ) where
+  -- the answer, the words, the verdicts and the skips of a batch
+  abbrev Receives : Received → (left given passed : List ℕ) → Type 0
+  Receives answer left given passed = LeavesBatch (receive s store index id now counters kinds verdicts skips) answer left given passed
 
-  pub wrong-store : (length store ≡ 1024 → ⊥) → Receives (Rejected 2) store verdicts
+  pub wrong-store : (length store ≡ 1024 → ⊥) → Receives (Rejected 2) store verdicts skips
   unfolding receive choose
-  wrong-store h = rw (ne-eqb (length store) 1024 h) (record { out = refl; words = refl; list = refl })
+  wrong-store h = rw (ne-eqb (length store) 1024 h) (record { out = refl; words = refl; list = refl; skip-list = refl })
 
-  module _ (l : length store ≡ 1024) (f : Bool) (e : f ≡ fits counters kinds verdicts) where
-    pub no-batch : f ≡ false → Receives (Rejected 2) store verdicts
+  module _ (l : length store ≡ 1024) (f : Bool) (e : f ≡ fits counters kinds verdicts skips) where
+    pub no-batch : f ≡ false → Receives (Rejected 2) store verdicts skips
     unfolding receive choose
-    no-batch p = rw (eq-eqb (length store) 1024 l, ← e, p) (record { out = refl; words = refl; list = refl })
+    no-batch p = rw (eq-eqb (length store) 1024 l, ← e, p) (record { out = refl; words = refl; list = refl; skip-list = refl })
 
     module _ (p : f ≡ true) (found : Found) (g : found ≡ receivingSession s index id now) where
-      pub none-receives : found ≡ Nothing → Receives (Rejected 12) store verdicts
+      pub none-receives : found ≡ Nothing → Receives (Rejected 12) store verdicts skips
       unfolding receive caseFound choose
-      none-receives q = rw (eq-eqb (length store) 1024 l, ← e, p, ← g, q) (record { out = refl; words = refl; list = refl })
+      none-receives q = rw (eq-eqb (length store) 1024 l, ← e, p, ← g, q) (record { out = refl; words = refl; list = refl; skip-list = refl })
 
       -- the session's slot lent on to the loop
-      pub one-receives : (x : Session) (slot start end : ℕ) (progress : Progress) (last given : List ℕ)
+      pub one-receives : (x : Session) (slot start end : ℕ) (progress : Progress) (last given passed : List ℕ)
           → found ≡ Got x → slot ≡ slotOf (x .«receiving_index») → start ≡ 128 * slot → end ≡ start + 128
-          → LeavesBatch (finishAll (take (end - start) (drop start store)) (record { next = x .next; accepted = false; «data» = false }) counters kinds) progress last given
+          → LeavesBatch (finishAll (take (end - start) (drop start store)) (record { next = x .next; accepted = false; «data» = false }) counters kinds) progress last given passed
           → length last ≡ length (take (end - start) (drop start store))
           → Receives (Judged (withNext (withReceivedData x (x .«received_data» || progress .«data»)) (progress .next)) progress)
-          (putMid start (end - start) store last) given
+          (putMid start (end - start) store last) given passed
       unfolding receive caseFound choose
-      one-receives x slot start end progress last given q k b d f same =
+      one-receives x slot start end progress last given passed q k b d f same =
           let part : take (end - start) (drop start store) ≡ slotWords store slot = part-is store slot start end b d in
           let long-last : length last ≡ 128 = same ∙ ap length part ∙ slot-long store slot l (omega arith) in
           rw (eq-eqb (length store) 1024 l, ← e, p, ← g, q, ← k)
@@ -198,4 +220,5 @@ module _ (s : Sessions) (store : List ℕ) (index id now : ℕ) (counters kinds 
             out = rw (f .out, part);
             words = part-put store last slot start end long-last b d ∙ ap (putSlot store slot) (f .words ∙ rw part);
             list = f .list ∙ rw part;
+            skip-list = f .skip-list ∙ rw part;
           })

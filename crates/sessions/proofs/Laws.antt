@@ -53,7 +53,7 @@ reservation-law s lens z =
 pub slots-apart : (s : Sessions) (store : List ℕ) (slot : ℕ) → SlotsApart s store slot
 slots-apart s store slot =
     record {
-      batch = λ index id now counters kinds verdicts d. kept-receive s store slot index d counters kinds id now verdicts;
+      batch = λ index id now counters kinds verdicts skips d. kept-receive s store slot index d counters kinds id now verdicts skips;
       insertion = λ x d. kept-insert s store slot x d;
       expiry = λ now e. kept-expire s store slot now e;
     }
@@ -98,7 +98,7 @@ whole-law s store l =
       insertion = λ x. insert-whole s store x l;
       clearing = clear-whole s store l;
       expiry = λ now. expire-whole s store now l;
-      batch = λ index id now counters kinds verdicts. receive-whole s store index id now counters kinds verdicts l;
+      batch = λ index id now counters kinds verdicts skips. receive-whole s store index id now counters kinds verdicts skips l;
     }
 
 -- an expiry that finds none
@@ -106,19 +106,20 @@ pub expiry-law : (s : Sessions) (store : List ℕ) (now : ℕ) → ExpiryLaw s s
 expiry-law s store now = record { none = expire-none s now store }
 
 -- lists that make a batch
-pub fits-law : (counters kinds verdicts : List ℕ) → FitsLaw counters kinds verdicts
-fits-law counters kinds verdicts = record { batch = fits-batch counters kinds verdicts; fitting = batch-fits counters kinds verdicts }
+pub fits-law : (counters kinds verdicts skips : List ℕ) → FitsLaw counters kinds verdicts skips
+fits-law counters kinds verdicts skips = record { batch = fits-batch counters kinds verdicts skips; fitting = batch-fits counters kinds verdicts skips }
 
 -- the early look
 pub look-law : (s : Session) (store : List ℕ) (receiver counter : ℕ) → length store ≡ 1024 → LookLaw s store receiver counter
 look-law s store receiver counter l = record { numbers = look-numbers s store receiver counter l }
 
 -- a batch that is turned down
-pub rejected-law : (s : Sessions) (store : List ℕ) (index id now : ℕ) (counters kinds verdicts : List ℕ) → RejectedLaw s store index id now counters kinds verdicts
-rejected-law s store index id now counters kinds verdicts =
+pub rejected-law : (s : Sessions) (store : List ℕ) (index id now : ℕ) (counters kinds verdicts skips : List ℕ) → RejectedLaw s store index id now counters kinds verdicts skips
+rejected-law s store index id now counters kinds verdicts skips =
     record {
-      words = λ number e. rejected s store index id now counters kinds verdicts number e .words;
-      list = λ number e. rejected s store index id now counters kinds verdicts number e .list;
+      words = λ number e. rejected s store index id now counters kinds verdicts skips number e .words;
+      list = λ number e. rejected s store index id now counters kinds verdicts skips number e .list;
+      skip-list = λ number e. rejected s store index id now counters kinds verdicts skips number e .skip-list;
     }
 
 -- an empty batch

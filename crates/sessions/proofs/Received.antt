@@ -65,12 +65,12 @@ module _ (s : Sessions) (store : List ℕ) (slot : ℕ) where
   KeptBy b = Kept s (caseReceived (b .out) (λ number. s) (λ x progress. put s x)) store (b .store) slot
 
   module _ (index : ℕ) (d : slot ≡ slotOf index → ⊥) (counters kinds : List ℕ) where
-    pub kept-receive : (id now : ℕ) (verdicts : List ℕ) → KeptBy (receive s store index id now counters kinds verdicts)
+    pub kept-receive : (id now : ℕ) (verdicts skips : List ℕ) → KeptBy (receive s store index id now counters kinds verdicts skips)
     unfolding receive put caseReceived caseFound choose
-    kept-receive id now verdicts = go (eqb (length store) 1024) (fits counters kinds verdicts) (receivingSession s index id now) refl refl refl
+    kept-receive id now verdicts skips = go (eqb (length store) 1024) (fits counters kinds verdicts skips) (receivingSession s index id now) refl refl refl
       where
-        go : (b f : Bool) (found : Found) → eqb (length store) 1024 ≡ b → fits counters kinds verdicts ≡ f → receivingSession s index id now ≡ found
-            → KeptBy (receive s store index id now counters kinds verdicts)
+        go : (b f : Bool) (found : Found) → eqb (length store) 1024 ≡ b → fits counters kinds verdicts skips ≡ f → receivingSession s index id now ≡ found
+            → KeptBy (receive s store index id now counters kinds verdicts skips)
         go true true (Got x) e p q =
             let other : slot ≡ slotOf (x .«receiving_index») → ⊥ = λ o. d (o ∙ ap slotOf (received-slot s index id now x q .0 .named)) in
             rw (e, p, q) (kept-other s store (eqb-true (length store) 1024 e) slot (x .«receiving_index» % 8) (omega arith) other _ _ _ refl)

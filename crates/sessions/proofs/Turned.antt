@@ -43,50 +43,59 @@ unfolding known choose
 each-known [] h = refl
 each-known (kind ∷ kinds) h = rw (le-ltb 2 kind (h 0 (omega arith))) (each-known kinds (λ i l. h (suc i) (omega arith)))
 
-module _ (counters kinds verdicts : List ℕ) where
-  fits-by : (over b d : Bool) → ltb 1024 (length counters) ≡ over → eqb (length kinds) (length counters) ≡ b → eqb (length verdicts) (length counters) ≡ d
-      → choose over false (choose b (choose d (known kinds) false) false) ≡ true → IsBatch counters kinds verdicts
+module _ (counters kinds verdicts skips : List ℕ) where
+  fits-by : (over b d f : Bool) → ltb 1024 (length counters) ≡ over → eqb (length kinds) (length counters) ≡ b → eqb (length verdicts) (length counters) ≡ d
+      → eqb (length skips) (length counters) ≡ f → choose over false (choose b (choose d (choose f (known kinds) false) false) false) ≡ true → IsBatch counters kinds verdicts skips
   unfolding choose
-  fits-by true b d p q r e = absurd (let z : _≡_ {A = ℕ} 0 1 = cc in omega arith)
-  fits-by false true true p q r e =
-      record { kinds-long = eqb-true _ _ q; verdicts-long = eqb-true _ _ r; most = ltb-false _ _ p; known = known-each kinds e }
-  fits-by false true false p q r e = absurd (let z : _≡_ {A = ℕ} 0 1 = cc in omega arith)
-  fits-by false false d p q r e = absurd (let z : _≡_ {A = ℕ} 0 1 = cc in omega arith)
+  fits-by true b d f p q r t e = absurd (let z : _≡_ {A = ℕ} 0 1 = cc in omega arith)
+  fits-by false true true true p q r t e =
+      record {
+        kinds-long = eqb-true _ _ q;
+        verdicts-long = eqb-true _ _ r;
+        skips-long = eqb-true _ _ t;
+        most = ltb-false _ _ p;
+        known = known-each kinds e;
+      }
+  fits-by false true true false p q r t e = absurd (let z : _≡_ {A = ℕ} 0 1 = cc in omega arith)
+  fits-by false true false f p q r t e = absurd (let z : _≡_ {A = ℕ} 0 1 = cc in omega arith)
+  fits-by false false d f p q r t e = absurd (let z : _≡_ {A = ℕ} 0 1 = cc in omega arith)
 
-  pub fits-batch : fits counters kinds verdicts ≡ true → IsBatch counters kinds verdicts
+  pub fits-batch : fits counters kinds verdicts skips ≡ true → IsBatch counters kinds verdicts skips
   unfolding fits
-  fits-batch e = fits-by _ _ _ refl refl refl e
+  fits-batch e = fits-by _ _ _ _ refl refl refl refl e
 
   -- as the call that makes the test learns it
-  pub fits-long : (f : Bool) → f ≡ fits counters kinds verdicts → f ≡ true → (length kinds ≡ length counters) × (length verdicts ≡ length counters)
-  fits-long f e p = let y : IsBatch counters kinds verdicts = fits-batch (sym e ∙ p) in (y .kinds-long, y .verdicts-long)
+  pub fits-long : (f : Bool) → f ≡ fits counters kinds verdicts skips → f ≡ true → (length kinds ≡ length counters) × (length verdicts ≡ length counters) × (length skips ≡ length counters)
+  fits-long f e p = let y : IsBatch counters kinds verdicts skips = fits-batch (sym e ∙ p) in (y .kinds-long, y .verdicts-long, y .skips-long)
 
-  pub batch-fits : IsBatch counters kinds verdicts → fits counters kinds verdicts ≡ true
+  pub batch-fits : IsBatch counters kinds verdicts skips → fits counters kinds verdicts skips ≡ true
   unfolding fits choose
   batch-fits y =
       rw (
         le-ltb 1024 (length counters) (y .most),
         eq-eqb (length kinds) (length counters) (y .kinds-long),
         eq-eqb (length verdicts) (length counters) (y .verdicts-long),
+        eq-eqb (length skips) (length counters) (y .skips-long),
       )
       (each-known kinds (y .known))
 
 -- a batch that is turned down
-module _ (s : Sessions) (store : List ℕ) (index id now : ℕ) (counters kinds verdicts : List ℕ) where
+module _ (s : Sessions) (store : List ℕ) (index id now : ℕ) (counters kinds verdicts skips : List ℕ) where
   pub record Left : Type 0 where
-    pub words : receive s store index id now counters kinds verdicts .store ≡ store
-    pub list : receive s store index id now counters kinds verdicts .verdicts ≡ verdicts
+    pub words : receive s store index id now counters kinds verdicts skips .store ≡ store
+    pub list : receive s store index id now counters kinds verdicts skips .verdicts ≡ verdicts
+    pub skip-list : receive s store index id now counters kinds verdicts skips .skips ≡ skips
 
-  pub rejected : (number : ℕ) → receive s store index id now counters kinds verdicts .out ≡ Rejected number → Left
+  pub rejected : (number : ℕ) → receive s store index id now counters kinds verdicts skips .out ≡ Rejected number → Left
   unfolding receive caseFound choose
-  rejected number = go (eqb (length store) 1024) (fits counters kinds verdicts) (receivingSession s index id now) refl refl refl
+  rejected number = go (eqb (length store) 1024) (fits counters kinds verdicts skips) (receivingSession s index id now) refl refl refl
     where
-      go : (b f : Bool) (found : Found) → eqb (length store) 1024 ≡ b → fits counters kinds verdicts ≡ f → receivingSession s index id now ≡ found
-          → receive s store index id now counters kinds verdicts .out ≡ Rejected number → Left
+      go : (b f : Bool) (found : Found) → eqb (length store) 1024 ≡ b → fits counters kinds verdicts skips ≡ f → receivingSession s index id now ≡ found
+          → receive s store index id now counters kinds verdicts skips .out ≡ Rejected number → Left
       go true true (Got x) e p q r = let y = rw (e, p, q) at r in let z : _≡_ {A = ℕ} 0 1 = cc in absurd (omega arith)
-      go true true Nothing e p q r = record { words = rw (e, p, q) refl; list = rw (e, p, q) refl }
-      go true false found e p q r = record { words = rw (e, p) refl; list = rw (e, p) refl }
-      go false f found e p q r = record { words = rw e refl; list = rw e refl }
+      go true true Nothing e p q r = record { words = rw (e, p, q) refl; list = rw (e, p, q) refl; skip-list = rw (e, p, q) refl }
+      go true false found e p q r = record { words = rw (e, p) refl; list = rw (e, p) refl; skip-list = rw (e, p) refl }
+      go false f found e p q r = record { words = rw e refl; list = rw e refl; skip-list = rw e refl }
 
 -- a slot's own words put back
 put-own : (store : List ℕ) (k : ℕ) → length store ≡ 1024 → k < 8 → putSlot store k (slotWords store k) ≡ store
@@ -117,8 +126,8 @@ module _ (s : Sessions) (store : List ℕ) (index id now : ℕ) where
 
   pub empty-leaves : (b : Bool) (found : Found) → eqb (length store) 1024 ≡ b → receivingSession s index id now ≡ found → EmptyBatchLaw s store index id now
   unfolding receive fits known finishAll caseFound choose
-  empty-leaves false found e q = record { answer = λ x p r. (let y = rw e at r in let z : _≡_ {A = ℕ} 0 1 = cc in absurd (omega arith)); words = rw e refl; list = rw e refl }
-  empty-leaves true Nothing e q = record { answer = λ x p r. (let y = rw (e, q) at r in let z : _≡_ {A = ℕ} 0 1 = cc in absurd (omega arith)); words = rw (e, q) refl; list = rw (e, q) refl }
+  empty-leaves false found e q = record { answer = λ x p r. (let y = rw e at r in let z : _≡_ {A = ℕ} 0 1 = cc in absurd (omega arith)); words = rw e refl; list = rw e refl; skip-list = rw e refl }
+  empty-leaves true Nothing e q = record { answer = λ x p r. (let y = rw (e, q) at r in let z : _≡_ {A = ℕ} 0 1 = cc in absurd (omega arith)); words = rw (e, q) refl; list = rw (e, q) refl; skip-list = rw (e, q) refl }
   empty-leaves true (Got x) e q =
       record {
         answer = λ y p r.
@@ -129,4 +138,5 @@ module _ (s : Sessions) (store : List ℕ) (index id now : ℕ) where
             );
         words = rw (e, q) (put-own store (x .«receiving_index» % 8) (eqb-true _ _ e) (omega arith));
         list = rw (e, q) refl;
+        skip-list = rw (e, q) refl;
       }

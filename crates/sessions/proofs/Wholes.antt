@@ -45,10 +45,10 @@ pub expire-whole : (s : Sessions) (store : List ℕ) (now : ℕ) → Whole store
 unfolding expire
 expire-whole s store now l = of-choice (λ (y : Expiring). Whole (y .store)) _ _ _ (first-whole _ 8 now (omega arith) l) l
 
-pub receive-whole : (s : Sessions) (store : List ℕ) (index id now : ℕ) (counters kinds verdicts : List ℕ) → Whole store
-    → Whole (receive s store index id now counters kinds verdicts .store)
+pub receive-whole : (s : Sessions) (store : List ℕ) (index id now : ℕ) (counters kinds verdicts skips : List ℕ) → Whole store
+    → Whole (receive s store index id now counters kinds verdicts skips .store)
 unfolding receive
-receive-whole s store index id now counters kinds verdicts l =
+receive-whole s store index id now counters kinds verdicts skips l =
     of-choice (λ (y : Batched Received). Whole (y .store)) _ _ _
     (of-choice (λ (y : Batched Received). Whole (y .store)) _ _ _
     (of-found (λ (y : Batched Received). Whole (y .store)) _ _ _ l (λ x. length-put store _ (x .«receiving_index» % 8) l (omega arith))) l)

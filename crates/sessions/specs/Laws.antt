@@ -35,9 +35,9 @@ pub record Kept (s last : Sessions) (store left : List ℕ) (slot : ℕ) : Type 
 -- A batch, an insertion and an expiry leave every slot that they do not name as it was: its record and its words.
 pub record SlotsApart (s : Sessions) (store : List ℕ) (slot : ℕ) : Type 0 where
   -- a batch for an index of another slot
-  pub batch : (index id now : ℕ) (counters kinds verdicts : List ℕ) → (slot ≡ slotOf index → ⊥)
-      → Kept s (caseReceived (receive s store index id now counters kinds verdicts .out) (λ number. s) (λ session progress. put s session))
-      store (receive s store index id now counters kinds verdicts .store) slot
+  pub batch : (index id now : ℕ) (counters kinds verdicts skips : List ℕ) → (slot ≡ slotOf index → ⊥)
+      → Kept s (caseReceived (receive s store index id now counters kinds verdicts skips .out) (λ number. s) (λ session progress. put s session))
+      store (receive s store index id now counters kinds verdicts skips .store) slot
   -- a session inserted into another slot
   pub insertion : (session : Session) → (slot ≡ slotOf (session .«receiving_index») → ⊥)
       → Kept s (insert s store session .sessions) store (insert s store session .store) slot
@@ -101,42 +101,46 @@ pub record WholeLaw (s : Sessions) (store : List ℕ) : Type 0 where
   pub insertion : (x : Session) → length (insert s store x .store) ≡ 1024
   pub clearing : length (clear s store .store) ≡ 1024
   pub expiry : (now : ℕ) → length (expire s store now .store) ≡ 1024
-  pub batch : (index id now : ℕ) (counters kinds verdicts : List ℕ) → length (receive s store index id now counters kinds verdicts .store) ≡ 1024
+  pub batch : (index id now : ℕ) (counters kinds verdicts skips : List ℕ) → length (receive s store index id now counters kinds verdicts skips .store) ≡ 1024
 
 -- An expiry that finds no session expired leaves all as it was.
 pub record ExpiryLaw (s : Sessions) (store : List ℕ) (now : ℕ) : Type 0 where
   pub none : noneExpired s now ≡ true → expire s store now ≡ expiring (record { sessions = s; current = Nothing }) store
 
 -- Lists that make a batch: of one length, of at most 1,024 messages, each of one of the three kinds.
-pub record IsBatch (counters kinds verdicts : List ℕ) : Type 0 where
+pub record IsBatch (counters kinds verdicts skips : List ℕ) : Type 0 where
   pub kinds-long : length kinds ≡ length counters
   pub verdicts-long : length verdicts ≡ length counters
+  pub skips-long : length skips ≡ length counters
   pub most : length counters ≤ 1024
   pub known : (i : ℕ) → i < length kinds → getD kinds i 0 ≤ 2
 
 -- The test of a batch's lists is true just where they make a batch.
-pub record FitsLaw (counters kinds verdicts : List ℕ) : Type 0 where
-  pub batch : fits counters kinds verdicts ≡ true → IsBatch counters kinds verdicts
-  pub fitting : IsBatch counters kinds verdicts → fits counters kinds verdicts ≡ true
+pub record FitsLaw (counters kinds verdicts skips : List ℕ) : Type 0 where
+  pub batch : fits counters kinds verdicts skips ≡ true → IsBatch counters kinds verdicts skips
+  pub fitting : IsBatch counters kinds verdicts skips → fits counters kinds verdicts skips ≡ true
 
 -- The early look of a session over a store of 1,024 words gives 0, 6, 9 or 10.
 pub record LookLaw (s : Session) (store : List ℕ) (receiver counter : ℕ) : Type 0 where
   pub numbers : (willReceive s store receiver counter ≡ 0) ⊎ (willReceive s store receiver counter ≡ 6) ⊎ (willReceive s store receiver counter ≡ 9)
       ⊎ (willReceive s store receiver counter ≡ 10)
 
--- A batch that is turned down leaves the store and the verdict list as they came.
-pub record RejectedLaw (s : Sessions) (store : List ℕ) (index id now : ℕ) (counters kinds verdicts : List ℕ) : Type 0 where
-  pub words : (number : ℕ) → receive s store index id now counters kinds verdicts .out ≡ Rejected number
-      → receive s store index id now counters kinds verdicts .store ≡ store
-  pub list : (number : ℕ) → receive s store index id now counters kinds verdicts .out ≡ Rejected number
-      → receive s store index id now counters kinds verdicts .verdicts ≡ verdicts
+-- A batch that is turned down leaves the store and both lists as they came.
+pub record RejectedLaw (s : Sessions) (store : List ℕ) (index id now : ℕ) (counters kinds verdicts skips : List ℕ) : Type 0 where
+  pub words : (number : ℕ) → receive s store index id now counters kinds verdicts skips .out ≡ Rejected number
+      → receive s store index id now counters kinds verdicts skips .store ≡ store
+  pub list : (number : ℕ) → receive s store index id now counters kinds verdicts skips .out ≡ Rejected number
+      → receive s store index id now counters kinds verdicts skips .verdicts ≡ verdicts
+  pub skip-list : (number : ℕ) → receive s store index id now counters kinds verdicts skips .out ≡ Rejected number
+      → receive s store index id now counters kinds verdicts skips .skips ≡ skips
 
--- An empty batch leaves the session that it is for, the store and the verdict list as they were, and accepts nothing.
+-- An empty batch leaves the session that it is for, the store and both lists as they were, and accepts nothing.
 pub record EmptyBatchLaw (s : Sessions) (store : List ℕ) (index id now : ℕ) : Type 0 where
-  pub answer : (session : Session) (progress : Progress) → receive s store index id now [] [] [] .out ≡ Judged session progress
+  pub answer : (session : Session) (progress : Progress) → receive s store index id now [] [] [] [] .out ≡ Judged session progress
       → (put s session ≡ s) × (progress .accepted ≡ false)
-  pub words : receive s store index id now [] [] [] .store ≡ store
-  pub list : receive s store index id now [] [] [] .verdicts ≡ []
+  pub words : receive s store index id now [] [] [] [] .store ≡ store
+  pub list : receive s store index id now [] [] [] [] .verdicts ≡ []
+  pub skip-list : receive s store index id now [] [] [] [] .skips ≡ []
 
 -- The messages of a batch keep the window's next at most LIMIT.
 pub record NextLaw (words : List ℕ) (progress : Progress) (counters kinds : List ℕ) : Type 0 where

@@ -1,4 +1,4 @@
-// A batch of received messages, over lists that the caller lends: a counter and a kind for each, and room for its verdict.
+// A batch of received messages, over lists that the caller lends: a counter and a kind for each, and room for its verdict and its skip.
 use crate::index::slot_of;
 use crate::session::Session;
 use crate::sessions::Found;
@@ -31,9 +31,10 @@ pub struct Progress {
     pub data: bool,
 }
 
-// A message's verdict, and the progress with it.
+// A message's verdict, how many counters it skipped, and the progress with it.
 pub struct Finished {
     pub verdict: u8,
+    pub skipped: u64,
     pub progress: Progress,
 }
 
@@ -67,8 +68,8 @@ fn known(kinds: &[u8]) -> bool
 }
 
 // Whether lists make a batch: of one length, of at most 1,024 messages, each of a known kind.
-pub fn fits(counters: &[u64], kinds: &[u8], verdicts: &[u8]) -> bool
-    ensures { λ r. ⌜ r ≡ fits (now (counters .entry)) (now (kinds .entry)) (now (verdicts .entry)) ⌝ }
+pub fn fits(counters: &[u64], kinds: &[u8], verdicts: &[u8], skips: &[u64]) -> bool
+    ensures { λ r. ⌜ r ≡ fits (now (counters .entry)) (now (kinds .entry)) (now (verdicts .entry)) (now (skips .entry)) ⌝ }
 {
     if counters.len() > 1024 {
         return false;
@@ -77,6 +78,9 @@ pub fn fits(counters: &[u64], kinds: &[u8], verdicts: &[u8]) -> bool
         return false;
     }
     if verdicts.len() != counters.len() {
+        return false;
+    }
+    if skips.len() != counters.len() {
         return false;
     }
     known(kinds)
@@ -94,6 +98,7 @@ fn finish_receive_packet_data(
     if kind == FAILED {
         return Finished {
             verdict: 7,
+            skipped: 0,
             progress,
         };
     }
@@ -101,12 +106,14 @@ fn finish_receive_packet_data(
     if marked.verdict != 0 {
         return Finished {
             verdict: marked.verdict,
+            skipped: 0,
             progress,
         };
     }
     if kind == DATA {
         return Finished {
             verdict: 0,
+            skipped: marked.skipped,
             progress: Progress {
                 next: marked.next,
                 accepted: true,
@@ -116,6 +123,7 @@ fn finish_receive_packet_data(
     }
     Finished {
         verdict: 0,
+        skipped: marked.skipped,
         progress: Progress {
             next: marked.next,
             accepted: true,
@@ -124,7 +132,7 @@ fn finish_receive_packet_data(
     }
 }
 
-// Commits the message at a place of the lists to a window's words, and puts its verdict at that place. The progress is handed back
+// Commits the message at a place of the lists to a window's words, and puts its verdict and its skip at that place. The progress is handed back
 // field by field, without the padding between them.
 fn finish_at(
     words: &mut [u64],
@@ -132,13 +140,15 @@ fn finish_at(
     counters: &[u64],
     kinds: &[u8],
     verdicts: &mut [u8],
+    skips: &mut [u64],
     i: usize,
 ) -> Progress
-    requires { ⌜ (i < length (now counters)) × (length (now kinds) ≡ length (now counters)) × (length (now verdicts) ≡ length (now counters)) ⌝ }
-    ensures { λ r. ⌜ LeavesBatch (finishAt (now (words .entry)) progress (now (counters .entry)) (now (kinds .entry)) (now (verdicts .entry)) i) r (now (words .exit)) (now (verdicts .exit)) ⌝ }
+    requires { ⌜ (i < length (now counters)) × (length (now kinds) ≡ length (now counters)) × (length (now verdicts) ≡ length (now counters)) × (length (now skips) ≡ length (now counters)) ⌝ }
+    ensures { λ r. ⌜ LeavesBatch (finishAt (now (words .entry)) progress (now (counters .entry)) (now (kinds .entry)) (now (verdicts .entry)) (now (skips .entry)) i) r (now (words .exit)) (now (verdicts .exit)) (now (skips .exit)) ⌝ }
 {
     let finished = finish_receive_packet_data(words, progress, counters[i], kinds[i]);
     verdicts[i] = finished.verdict;
+    skips[i] = finished.skipped;
     let after = finished.progress;
     Progress {
         next: after.next,
@@ -154,14 +164,15 @@ fn finish_all(
     counters: &[u64],
     kinds: &[u8],
     verdicts: &mut [u8],
+    skips: &mut [u64],
 ) -> Progress
-    requires { ⌜ (length (now kinds) ≡ length (now counters)) × (length (now verdicts) ≡ length (now counters)) ⌝ }
-    ensures { λ r. ⌜ LeavesBatch (finishAll (now (words .entry)) start (now (counters .entry)) (now (kinds .entry))) r (now (words .exit)) (now (verdicts .exit)) ⌝ }
+    requires { ⌜ (length (now kinds) ≡ length (now counters)) × (length (now verdicts) ≡ length (now counters)) × (length (now skips) ≡ length (now counters)) ⌝ }
+    ensures { λ r. ⌜ LeavesBatch (finishAll (now (words .entry)) start (now (counters .entry)) (now (kinds .entry))) r (now (words .exit)) (now (verdicts .exit)) (now (skips .exit)) ⌝ }
 {
     let mut progress = start;
     let mut i = 0;
     while i < counters.len() {
-        progress = finish_at(words, progress, counters, kinds, verdicts, i);
+        progress = finish_at(words, progress, counters, kinds, verdicts, skips, i);
         i = i + 1;
     }
     progress
@@ -184,8 +195,8 @@ impl Sessions {
         Found::Got(session)
     }
 
-    // Gives each message of a batch for the session with this index and id its verdict, over the words of the session's slot, which
-    // are lent on by themselves. Turned down by 2 for a store not of 1,024 words or lists that make no batch, then by 12 where there
+    // Gives each message of a batch for the session with this index and id its verdict and its skip, over the words of the session's
+    // slot, which are lent on by themselves. Turned down by 2 for a store not of 1,024 words or lists that make no batch, then by 12 where there
     // is no such session or it is expired.
     pub fn receive(
         self,
@@ -196,13 +207,14 @@ impl Sessions {
         counters: &[u64],
         kinds: &[u8],
         verdicts: &mut [u8],
+        skips: &mut [u64],
     ) -> Received
-        ensures { λ r. ⌜ LeavesBatch (receive self (store .entry .now) index id now (counters .entry .now) (kinds .entry .now) (verdicts .entry .now)) r (store .exit .now) (verdicts .exit .now) ⌝ }
+        ensures { λ r. ⌜ LeavesBatch (receive self (store .entry .now) index id now (counters .entry .now) (kinds .entry .now) (verdicts .entry .now) (skips .entry .now)) r (store .exit .now) (verdicts .exit .now) (skips .exit .now) ⌝ }
     {
         if store.len() != 1024 {
             return Received::Rejected(2);
         }
-        if !fits(counters, kinds, verdicts) {
+        if !fits(counters, kinds, verdicts, skips) {
             return Received::Rejected(2);
         }
         let Found::Got(session) = self.receiving_session(index, id, now) else {
@@ -215,7 +227,14 @@ impl Sessions {
             accepted: false,
             data: false,
         };
-        let progress = finish_all(&mut store[start..end], before, counters, kinds, verdicts);
+        let progress = finish_all(
+            &mut store[start..end],
+            before,
+            counters,
+            kinds,
+            verdicts,
+            skips,
+        );
         let after = Session {
             received_data: session.received_data | progress.data,
             next: progress.next,

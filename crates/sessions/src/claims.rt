@@ -52,7 +52,7 @@ pub fn expiry_law()
 
 // The test of a batch is true just where its lists are of one length, of at most 1,024 messages, each of a known kind.
 pub fn fits_law()
-    ensures { λ r. ⌜ ((counters kinds verdicts : List ℕ) → FitsLaw counters kinds verdicts) ⌝ }
+    ensures { λ r. ⌜ ((counters kinds verdicts skips : List ℕ) → FitsLaw counters kinds verdicts skips) ⌝ }
 {}
 
 // The early look of a session over a store of 1,024 words gives 0, 6, 9 or 10.
@@ -67,7 +67,7 @@ pub fn next_law()
 
 // A batch that is turned down leaves the store and the verdict list as they came.
 pub fn rejected_law()
-    ensures { λ r. ⌜ ((s : Sessions) (store : List ℕ) (index id now : ℕ) (counters kinds verdicts : List ℕ) → RejectedLaw s store index id now counters kinds verdicts) ⌝ }
+    ensures { λ r. ⌜ ((s : Sessions) (store : List ℕ) (index id now : ℕ) (counters kinds verdicts skips : List ℕ) → RejectedLaw s store index id now counters kinds verdicts skips) ⌝ }
 {}
 
 // An empty batch leaves the session, the store and the verdict list as they were.

@@ -100,30 +100,32 @@ module _ (c : Control) where
       (record { out = record { down = λ d. absurd (d refl); up = λ e. refl }; words = λ d. absurd (d refl) })
 
   -- a batch
-  pub batch-ways : (store : List ℕ) (index id now : ℕ) (counters kinds verdicts : List ℕ)
-      → BatchWays c store verdicts (commitDecapsulate c store index id now counters kinds verdicts)
+  pub batch-ways : (store : List ℕ) (index id now : ℕ) (counters kinds verdicts skips : List ℕ)
+      → BatchWays c store verdicts skips (commitDecapsulate c store index id now counters kinds verdicts skips)
   unfolding commitDecapsulate receive caseReceived done numberOf
-  batch-ways store index id now counters kinds verdicts =
-      of-choice (BatchWays c store verdicts) _ _ _ (turned 11 (λ e. omega arith))
+  batch-ways store index id now counters kinds verdicts skips =
+      of-choice (BatchWays c store verdicts skips) _ _ _ (turned 11 (λ e. omega arith))
       (of-choice Judges _ _ _
-      (of-choice Judges _ _ _ (of-found Judges _ _ _ (turned 12 (λ e. omega arith)) (λ x. judged _ _ _ _)) (turned 2 (λ e. omega arith)))
+      (of-choice Judges _ _ _ (of-found Judges _ _ _ (turned 12 (λ e. omega arith)) (λ x. judged _ _ _ _ _)) (turned 2 (λ e. omega arith)))
       (turned 2 (λ e. omega arith)))
     where
       Judges : Batched Received → Type 0
       Judges r =
-          BatchWays c store verdicts
+          BatchWays c store verdicts skips
           (record {
             out = caseReceived (r .out) (λ number. refuse c number) (λ session progress. done (accept c session progress index now) Done);
             store = r .store;
             verdicts = r .verdicts;
+            skips = r .skips;
           })
 
-      turned : (n : ℕ) → (n ≡ 0 → ⊥) → BatchWays c store verdicts (untouched (refuse c n) store verdicts)
-      turned n z = record { out = refuse-ways c n z; words = λ d. refl; list = λ d. refl }
+      turned : (n : ℕ) → (n ≡ 0 → ⊥) → BatchWays c store verdicts skips (untouched (refuse c n) store verdicts skips)
+      turned n z = record { out = refuse-ways c n z; words = λ d. refl; list = λ d. refl; skip-list = λ d. refl }
 
-      judged : (x : Session) (p : Progress) (left list : List ℕ)
-          → BatchWays c store verdicts (record { out = done (accept c x p index now) Done; store = left; verdicts = list })
-      judged x p left list = record { out = done-ways c _ Done refl; words = λ d. absurd (d refl); list = λ d. absurd (d refl) }
+      judged : (x : Session) (p : Progress) (left list passed : List ℕ)
+          → BatchWays c store verdicts skips (record { out = done (accept c x p index now) Done; store = left; verdicts = list; skips = passed })
+      judged x p left list passed =
+          record { out = done-ways c _ Done refl; words = λ d. absurd (d refl); list = λ d. absurd (d refl); skip-list = λ d. absurd (d refl) }
 
   -- a response, whose session is never stored without its keepalive
   pub response-ways : (store : List ℕ) (receiver peer outcome now : ℕ) → SoundControl c now → length store ≡ 1024

@@ -62,12 +62,12 @@ pub stored : (store : List ℕ) → Tells (lacking store) false (IsStore store)
 unfolding lacking
 stored store = opposite (whole store) (record { to = eqb-true (length store) 1024; from = eq-eqb (length store) 1024 })
 
-pub batched : (store counters kinds verdicts : List ℕ) → Tells (badBatch store counters kinds verdicts) false (IsStore store × IsBatch counters kinds verdicts)
+pub batched : (store counters kinds verdicts skips : List ℕ) → Tells (badBatch store counters kinds verdicts skips) false (IsStore store × IsBatch counters kinds verdicts skips)
 unfolding badBatch
-batched store counters kinds verdicts =
+batched store counters kinds verdicts skips =
     both (lacking store) _ (stored store)
-    (opposite (fits counters kinds verdicts)
-    (record { to = fits-law counters kinds verdicts .batch; from = fits-law counters kinds verdicts .fitting }))
+    (opposite (fits counters kinds verdicts skips)
+    (record { to = fits-law counters kinds verdicts skips .batch; from = fits-law counters kinds verdicts skips .fitting }))
 
 pub jittered : (jitter : ℕ) (store : List ℕ) → Tells (badJitter jitter store) false (IsStore store × (jitter ≤ 333000000))
 unfolding badJitter

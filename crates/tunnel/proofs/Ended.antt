@@ -98,10 +98,10 @@ accept-living : (c : Control) (x : Session) (p : Progress) (index now : ℕ) →
 unfolding accept
 accept-living c x p index now l = of-choice Living _ _ _ (confirm-living _ _ now l) l
 
-receive-ended : (c : Control) (store : List ℕ) (index id now : ℕ) (counters kinds verdicts : List ℕ) → Ended c
-    → EndedOut (commitDecapsulate c store index id now counters kinds verdicts .out)
+receive-ended : (c : Control) (store : List ℕ) (index id now : ℕ) (counters kinds verdicts skips : List ℕ) → Ended c
+    → EndedOut (commitDecapsulate c store index id now counters kinds verdicts skips .out)
 unfolding commitDecapsulate refuse done
-receive-ended c store index id now counters kinds verdicts h =
+receive-ended c store index id now counters kinds verdicts skips h =
     unless-expired (λ (y : Batched Out). y .out .control) c _ _ h
     (λ l. known-received LivingOut _ _ _ (λ n. l) (λ x p e. accept-living c x p index now l))
 
@@ -258,8 +258,8 @@ stays-ended t store h =
       start = λ now. timed-ended t h _ now _ (λ b. start-ended (t .control) now h);
       restart = λ now. timed-ended t h _ now _ (λ b. restart-ended (t .control) now h);
       send = λ count now. timed-ended t h _ now _ (λ b. send-ended (t .control) count now h);
-      receive = λ index id now counters kinds verdicts.
-          timed-ended t h _ now _ (λ b. receive-ended (t .control) store index id now counters kinds verdicts h);
+      receive = λ index id now counters kinds verdicts skips.
+          timed-ended t h _ now _ (λ b. receive-ended (t .control) store index id now counters kinds verdicts skips h);
       look = λ index counter now. timed-ended t h _ now _ (λ b. look-ended (t .control) store index counter now h);
       initiation = λ peer outcome now. timed-ended t h _ now _ (λ b. initiation-ended (t .control) store peer (initiationOutcome outcome) now h);
       response = λ receiver peer outcome now.

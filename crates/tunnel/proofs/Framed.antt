@@ -136,24 +136,26 @@ module _ (t : Tunnel) (bad is sound : Bool) (now number : ℕ) (b : bad ≡ is) 
   way-turn-settled store left turn out a z o r =
       record { out = way-settled out (turn .out) a z (o .out) r; words = kept-settled store left (turn .store) z (o .words) }
 
-  pub way-batch-refused : (store verdicts : List ℕ) (batch : Batched Out) (a : Answered) → (number ≡ 0 → ⊥) → a ≡ refused t number
-      → LeavesBatch (timedBatch t is now store verdicts batch) a store verdicts
+  pub way-batch-refused : (store verdicts skips : List ℕ) (batch : Batched Out) (a : Answered) → (number ≡ 0 → ⊥) → a ≡ refused t number
+      → LeavesBatch (timedBatch t is now store verdicts skips batch) a store verdicts skips
   unfolding timedBatch
-  way-batch-refused store verdicts batch a z r =
+  way-batch-refused store verdicts skips batch a z r =
       record {
         out = way-refused (batch .out) a z r;
         words = kept-refused store (batch .store) z;
         list = kept-refused verdicts (batch .verdicts) z;
+        skip-list = kept-refused skips (batch .skips) z;
       }
 
-  pub way-batch-settled : (store verdicts left list : List ℕ) (batch : Batched Out) (out : Out) (a : Answered) → number ≡ 0 → LeavesBatch batch out left list
-      → a ≡ settled t now out → LeavesBatch (timedBatch t is now store verdicts batch) a left list
+  pub way-batch-settled : (store verdicts skips left list passed : List ℕ) (batch : Batched Out) (out : Out) (a : Answered) → number ≡ 0
+      → LeavesBatch batch out left list passed → a ≡ settled t now out → LeavesBatch (timedBatch t is now store verdicts skips batch) a left list passed
   unfolding timedBatch
-  way-batch-settled store verdicts left list batch out a z o r =
+  way-batch-settled store verdicts skips left list passed batch out a z o r =
       record {
         out = way-settled out (batch .out) a z (o .out) r;
         words = kept-settled store left (batch .store) z (o .words);
         list = kept-settled verdicts list (batch .verdicts) z (o .list);
+        skip-list = kept-settled skips passed (batch .skips) z (o .skip-list);
       }
 
 -- the frame of a call without a time

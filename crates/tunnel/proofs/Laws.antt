@@ -72,8 +72,8 @@ sound-law t s =
       start = λ now. timed-sound t s _ now _ (λ b l. start-sound (t .greatest) now l (t .control) w);
       restart = λ now. timed-sound t s _ now _ (λ b l. restart-sound (t .greatest) now l (t .control) w);
       send = λ count now. timed-sound t s _ now _ (λ b l. send-sound (t .greatest) now l (t .control) w count);
-      receive = λ store index id now counters kinds verdicts.
-          timed-sound t s _ now _ (λ b l. batch-sound (t .greatest) now l (t .control) w store index id counters kinds verdicts);
+      receive = λ store index id now counters kinds verdicts skips.
+          timed-sound t s _ now _ (λ b l. batch-sound (t .greatest) now l (t .control) w store index id counters kinds verdicts skips);
       look = λ store index counter now. timed-sound t s _ now _ (λ b l. look-sound (t .greatest) now l (t .control) w store index counter);
       initiation = λ store peer outcome now.
           timed-sound t s _ now _ (λ b l. initiation-sound (t .greatest) now l (t .control) store peer (initiationOutcome outcome) w);
@@ -104,7 +104,7 @@ pub store-law : (t : Tunnel) (store : List ℕ) → length store ≡ 1024 → St
 unfolding callReceive callInitiation callResponse callTimeout timedTurn timedBatch
 store-law t store l =
     record {
-      receive = λ index id now counters kinds verdicts. kept-whole t _ now store _ l (batch-store (t .control) store l index id now counters kinds verdicts);
+      receive = λ index id now counters kinds verdicts skips. kept-whole t _ now store _ l (batch-store (t .control) store l index id now counters kinds verdicts skips);
       initiation = λ peer outcome now. kept-whole t _ now store _ l (initiation-store (t .control) store peer _ now l);
       response = λ receiver peer outcome now. kept-whole t _ now store _ l (response-store (t .control) store l receiver peer _ now);
       timeout = λ jitter now. kept-whole t _ now store _ l (timeout-store (t .control) store l jitter now);
@@ -118,7 +118,7 @@ setting-law t store =
       start = λ now. on-timed _ t refl _ now _ (on-start _ _ now refl);
       restart = λ now. on-timed _ t refl _ now _ (on-restart _ _ now refl);
       send = λ count now. on-timed _ t refl _ now _ (on-send _ _ count now refl);
-      receive = λ index id now counters kinds verdicts. on-timed _ t refl _ now _ (on-receive _ _ store index id now counters kinds verdicts refl);
+      receive = λ index id now counters kinds verdicts skips. on-timed _ t refl _ now _ (on-receive _ _ store index id now counters kinds verdicts skips refl);
       look = λ index counter now. on-timed _ t refl _ now _ (on-look _ _ store index counter now refl);
       initiation = λ peer outcome now. on-timed _ t refl _ now _ (on-incoming _ _ store peer _ now refl);
       response = λ receiver peer outcome now. on-timed _ t refl _ now _ (on-response _ _ store receiver peer _ now refl);
@@ -183,8 +183,8 @@ module _ (t : Tunnel) (store : List ℕ) (eight : length (t .control .sessions .
         restart = λ now. timed-down t _ now _ (λ z. restart-ways (t .control) now);
         send = λ count now. send-down t count now;
         sendTooFew = λ count now. send-marked t count now;
-        receive = λ index id now counters kinds verdicts.
-            batch-down t _ now store verdicts _ (λ z. batch-ways (t .control) store index id now counters kinds verdicts);
+        receive = λ index id now counters kinds verdicts skips.
+            batch-down t _ now store verdicts skips _ (λ z. batch-ways (t .control) store index id now counters kinds verdicts skips);
         initiation = λ peer outcome now. incoming-down t store peer outcome now;
         initiationFailed = λ peer outcome now. incoming-failed t store peer outcome now;
         initiationStore = λ peer outcome now. incoming-store t store peer outcome now;
@@ -207,7 +207,7 @@ greatest-law t store =
       start = λ now. timed-up t _ now _ (λ z. start-ways (t .control) now .up);
       restart = λ now. timed-up t _ now _ (λ z. restart-ways (t .control) now .up);
       send = λ count now. timed-up t _ now _ (λ z. send-ways (t .control) count now .up);
-      receive = λ index id now counters kinds verdicts. timed-up t _ now _ (λ z. batch-ways (t .control) store index id now counters kinds verdicts .out .up);
+      receive = λ index id now counters kinds verdicts skips. timed-up t _ now _ (λ z. batch-ways (t .control) store index id now counters kinds verdicts skips .out .up);
       initiation = λ peer outcome now. incoming-up t store peer outcome now;
       response = λ receiver peer outcome now. timed-up t _ now _ (λ z. response-up (t .control) store receiver peer (openingOutcome outcome) now);
       cookie = λ receiver outcome now. timed-up t _ now _ (λ z. cookie-ways (t .control) receiver (openingOutcome outcome) now .up);

@@ -120,16 +120,16 @@ send-beneath c count now = beneath-living c numberIn _ _ refl (of-found OtherOut
 
 -- receiving
 module _ (c : Control) (store : List ℕ) where
-  receive-beneath : (index id now : ℕ) (counters kinds verdicts : List ℕ) → badBatch store counters kinds verdicts ≡ false
-      → Beneath (numberIn (commitDecapsulate c store index id now counters kinds verdicts .out)) (Living c)
+  receive-beneath : (index id now : ℕ) (counters kinds verdicts skips : List ℕ) → badBatch store counters kinds verdicts skips ≡ false
+      → Beneath (numberIn (commitDecapsulate c store index id now counters kinds verdicts skips .out)) (Living c)
   unfolding commitDecapsulate receive refuse done numberOf caseReceived
-  receive-beneath index id now counters kinds verdicts b =
-      let good : IsStore store × IsBatch counters kinds verdicts = batched store counters kinds verdicts .to b in
+  receive-beneath index id now counters kinds verdicts skips b =
+      let good : IsStore store × IsBatch counters kinds verdicts skips = batched store counters kinds verdicts skips .to b in
       beneath-living c (λ (y : Batched Out). numberIn (y .out)) _ _ refl
       (known-choice Judging (whole store) _ _
-      (λ e. known-choice Judging (fits counters kinds verdicts) _ _
+      (λ e. known-choice Judging (fits counters kinds verdicts skips) _ _
       (λ f. of-found Judging _ _ _ refl (λ s. refl))
-      (λ f. absurd (true≢false (sym (fits-law counters kinds verdicts .fitting (good .1)) ∙ f))))
+      (λ f. absurd (true≢false (sym (fits-law counters kinds verdicts skips .fitting (good .1)) ∙ f))))
       (λ e. absurd (true≢false (sym (eq-eqb (length store) 1024 (good .0)) ∙ e))))
     where
       Judging : Batched Received → Type 0
@@ -248,8 +248,8 @@ first-numbers t store =
       start = λ now. timed-first t _ _ _ _ never-fails (λ b. start-beneath (t .control) now) now;
       restart = λ now. timed-first t _ _ _ _ never-fails (λ b. restart-beneath (t .control) now) now;
       send = λ count now. timed-first t _ _ _ _ (counted count) (λ b. send-beneath (t .control) count now) now;
-      receive = λ index id now counters kinds verdicts.
-          timed-first t _ _ _ _ (batched store counters kinds verdicts) (receive-beneath (t .control) store index id now counters kinds verdicts) now;
+      receive = λ index id now counters kinds verdicts skips.
+          timed-first t _ _ _ _ (batched store counters kinds verdicts skips) (receive-beneath (t .control) store index id now counters kinds verdicts skips) now;
       look = λ index counter now. timed-first t _ _ _ _ (stored store) (λ b. look-beneath (t .control) store index counter now (stored store .to b)) now;
       initiation = λ peer outcome now.
           timed-first t _ _ _ _ (of-outcome _ store _ (initiation-named outcome))

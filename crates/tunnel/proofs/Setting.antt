@@ -88,10 +88,10 @@ module _ (interval : Interval) where
   unfolding accept
   on-accept c x p index now h = of-choice Set _ _ _ (on-confirm _ _ now (on-accepted (c .timers) _ now h)) h
 
-  pub on-receive : (c : Control) (store : List ℕ) (index id now : ℕ) (counters kinds verdicts : List ℕ) → Set c
-      → SetOut (commitDecapsulate c store index id now counters kinds verdicts .out)
+  pub on-receive : (c : Control) (store : List ℕ) (index id now : ℕ) (counters kinds verdicts skips : List ℕ) → Set c
+      → SetOut (commitDecapsulate c store index id now counters kinds verdicts skips .out)
   unfolding commitDecapsulate refuse done
-  on-receive c store index id now counters kinds verdicts h =
+  on-receive c store index id now counters kinds verdicts skips h =
       of-choice (λ (b : Batched Out). SetOut (b .out)) _ _ _ h (known-received SetOut _ _ _ (λ n. h) (λ x p e. on-accept c x p index now h))
 
   pub on-look : (c : Control) (store : List ℕ) (index counter now : ℕ) → Set c → SetOut (beginDecapsulate c store index counter now)

@@ -178,14 +178,14 @@ module _ (old now : ℕ) (l : old ≤ now) (c : Control) (w : SoundControl c old
       (known-found (λ (y : Out). SoundOut y old now) (sendingSession (c .sessions) now) _ _ (refuse-sound old now c 12 w)
       (λ x p. granted-sound x count (sending-within now (c .sessions) now x (later .within .sessions) p)))
 
-  pub batch-sound : (store : List ℕ) (index id : ℕ) (counters kinds verdicts : List ℕ)
-      → SoundOut (commitDecapsulate c store index id now counters kinds verdicts .out) old now
+  pub batch-sound : (store : List ℕ) (index id : ℕ) (counters kinds verdicts skips : List ℕ)
+      → SoundOut (commitDecapsulate c store index id now counters kinds verdicts skips .out) old now
   unfolding commitDecapsulate
-  batch-sound store index id counters kinds verdicts =
+  batch-sound store index id counters kinds verdicts skips =
       of-choice (λ (y : Batched Out). SoundOut (y .out) old now) _ _ _ (refuse-sound old now c 11 w)
       (known-received (λ (y : Out). SoundOut y old now) _ _ _ (λ n. refuse-sound old now c n w)
       (λ x p e. done-sound old now _ _ (sound-accept now now same c x p index
-      (receive-sound now (c .sessions) store index id now counters kinds verdicts (later .within .sessions) x p e) later)))
+      (receive-sound now (c .sessions) store index id now counters kinds verdicts skips (later .within .sessions) x p e) later)))
 
   pub look-sound : (store : List ℕ) (index counter : ℕ) → SoundOut (beginDecapsulate c store index counter now) old now
   unfolding beginDecapsulate

@@ -150,10 +150,10 @@ module _ (most : ℕ) where
   judged-sound : (x : Session) (p : Progress) → OwnSlot x most → SoundReceived (Judged x p) most
   judged-sound x p w y q e = let same : x ≡ y = cc in rw (← same) w
 
-  pub receive-sound : (s : Sessions) (store : List ℕ) (index id now : ℕ) (counters kinds verdicts : List ℕ) → SessionsWithin s most
-      → SoundReceived (receive s store index id now counters kinds verdicts .out) most
+  pub receive-sound : (s : Sessions) (store : List ℕ) (index id now : ℕ) (counters kinds verdicts skips : List ℕ) → SessionsWithin s most
+      → SoundReceived (receive s store index id now counters kinds verdicts skips .out) most
   unfolding receive
-  receive-sound s store index id now counters kinds verdicts w =
+  receive-sound s store index id now counters kinds verdicts skips w =
       of-choice (λ (y : Batched Received). SoundReceived (y .out) most) _ _ _
       (of-choice (λ (y : Batched Received). SoundReceived (y .out) most) _ _ _
       (known-found (λ (y : Batched Received). SoundReceived (y .out) most) (receivingSession s index id now) _ _ (rejected-sound 12)

@@ -86,13 +86,13 @@ timeout-nothing t store jitter now x =
 -- an empty batch
 module _ (c : Control) (store : List ℕ) (index id now : ℕ) where
   abbrev none : Batched Out
-  none = commitDecapsulate c store index id now [] [] []
+  none = commitDecapsulate c store index id now [] [] [] []
 
   empty-out : numberOf (none .out .answer) ≡ 0 → none .out ≡ done c Done
   unfolding commitDecapsulate caseReceived accept refuse done choose
-  empty-out z = go (expiredControl c) (receive (c .sessions) store index id now [] [] [] .out) refl refl (batch-ways c store index id now [] [] [] .out .up z)
+  empty-out z = go (expiredControl c) (receive (c .sessions) store index id now [] [] [] [] .out) refl refl (batch-ways c store index id now [] [] [] [] .out .up z)
     where
-      go : (b : Bool) (r : Received) → expiredControl c ≡ b → receive (c .sessions) store index id now [] [] [] .out ≡ r → none .out .raises ≡ true
+      go : (b : Bool) (r : Received) → expiredControl c ≡ b → receive (c .sessions) store index id now [] [] [] [] .out ≡ r → none .out .raises ≡ true
           → none .out ≡ done c Done
       go true r p q u = absurd (true≢false (sym (rw p at u)))
       go false (Rejected n) p q u = absurd (true≢false (sym (rw (p, q) at u)))
@@ -106,16 +106,27 @@ module _ (c : Control) (store : List ℕ) (index id now : ℕ) where
   unfolding commitDecapsulate
   empty-list = of-choice (λ (b : Batched Out). b .verdicts ≡ []) _ _ _ refl (empty-batch-law (c .sessions) store index id now .list)
 
-pub empty-nothing : (t : Tunnel) (store : List ℕ) (index id now : ℕ) → numberOf (callReceive t store index id now [] [] [] .out .answer) ≡ 0
-    → (callReceive t store index id now [] [] [] .out .tunnel ≡ withGreatest t now)
-    × (callReceive t store index id now [] [] [] .store ≡ store)
-    × (callReceive t store index id now [] [] [] .verdicts ≡ [])
+  empty-skips : none .skips ≡ []
+  unfolding commitDecapsulate
+  empty-skips = of-choice (λ (b : Batched Out). b .skips ≡ []) _ _ _ refl (empty-batch-law (c .sessions) store index id now .skip-list)
+
+pub empty-nothing : (t : Tunnel) (store : List ℕ) (index id now : ℕ) → numberOf (callReceive t store index id now [] [] [] [] .out .answer) ≡ 0
+    → (callReceive t store index id now [] [] [] [] .out .tunnel ≡ withGreatest t now)
+    × (callReceive t store index id now [] [] [] [] .store ≡ store)
+    × (callReceive t store index id now [] [] [] [] .verdicts ≡ [])
+    × (callReceive t store index id now [] [] [] [] .skips ≡ [])
 unfolding callReceive settled done choose
 empty-nothing t store index id now =
-    of-batch t (badBatch store [] [] []) now
-    (λ (a : Batched Answered). numberOf (a .out .answer) ≡ 0 → (a .out .tunnel ≡ withGreatest t now) × (a .store ≡ store) × (a .verdicts ≡ [])) store [] _
-    (λ z e. (rw (empty-out (t .control) store index id now e) refl, empty-store (t .control) store index id now, empty-list (t .control) store index id now))
-    (λ z e. absurd (z (rw (refused-number t (gate t (badBatch store [] [] []) now)) at e)))
+    of-batch t (badBatch store [] [] [] []) now
+    (λ (a : Batched Answered).
+    numberOf (a .out .answer) ≡ 0 → (a .out .tunnel ≡ withGreatest t now) × (a .store ≡ store) × (a .verdicts ≡ []) × (a .skips ≡ [])) store [] [] _
+    (λ z e. (
+      rw (empty-out (t .control) store index id now e) refl,
+      empty-store (t .control) store index id now,
+      empty-list (t .control) store index id now,
+      empty-skips (t .control) store index id now,
+    ))
+    (λ z e. absurd (z (rw (refused-number t (gate t (badBatch store [] [] [] []) now)) at e)))
 
 -- the deadline of an expired tunnel
 pub deadline-nothing : (t : Tunnel) → IsExpired t → numberOf (callDeadline t .answer) ≡ 0 → callDeadline t .answer ≡ Deadline Never

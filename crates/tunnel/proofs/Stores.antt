@@ -25,10 +25,10 @@ Whole store = length store ≡ 1024
 
 -- the operations
 module _ (c : Control) (store : List ℕ) (l : Whole store) where
-  pub batch-store : (index id now : ℕ) (counters kinds verdicts : List ℕ) → Whole (commitDecapsulate c store index id now counters kinds verdicts .store)
+  pub batch-store : (index id now : ℕ) (counters kinds verdicts skips : List ℕ) → Whole (commitDecapsulate c store index id now counters kinds verdicts skips .store)
   unfolding commitDecapsulate
-  batch-store index id now counters kinds verdicts =
-      of-choice (λ (y : Batched Out). Whole (y .store)) _ _ _ l (whole-law (c .sessions) store l .batch index id now counters kinds verdicts)
+  batch-store index id now counters kinds verdicts skips =
+      of-choice (λ (y : Batched Out). Whole (y .store)) _ _ _ l (whole-law (c .sessions) store l .batch index id now counters kinds verdicts skips)
 
   pub response-store : (receiver peer outcome now : ℕ) → Whole (handleHandshakeResponse c store receiver peer outcome now .store)
   unfolding handleHandshakeResponse

@@ -131,25 +131,25 @@ module _ (c : Control) where
     way-accepted selected ticked confirmed out y e t q o = o ∙ ap (λ (x : Control). done x Done) (yes-flag (progress .accepted) _ _ _ y (q ∙ rw (e, t, s)))
 
   -- a batch
-  module _ (store : List ℕ) (index id now : ℕ) (counters kinds verdicts : List ℕ) (flag : Bool) (f : flag ≡ expiredControl c) where
+  module _ (store : List ℕ) (index id now : ℕ) (counters kinds verdicts skips : List ℕ) (flag : Bool) (f : flag ≡ expiredControl c) where
     -- what a batch hands back
-    abbrev Commits : Out → (left list : List ℕ) → Type 0
-    Commits out left list = LeavesBatch (commitDecapsulate c store index id now counters kinds verdicts) out left list
+    abbrev Commits : Out → (left list passed : List ℕ) → Type 0
+    Commits out left list passed = LeavesBatch (commitDecapsulate c store index id now counters kinds verdicts skips) out left list passed
 
-    pub way-batch-expired : (out : Out) → flag ≡ true → out ≡ refuse c 11 → Commits out store verdicts
+    pub way-batch-expired : (out : Out) → flag ≡ true → out ≡ refuse c 11 → Commits out store verdicts skips
     unfolding commitDecapsulate choose
-    way-batch-expired out g o = rw (← f, g) (record { out = o; words = refl; list = refl })
+    way-batch-expired out g o = rw (← f, g) (record { out = o; words = refl; list = refl; skip-list = refl })
 
     module _
-        (g : flag ≡ false) (received : Received) (left list : List ℕ)
-        (r : LeavesBatch (receive (c .sessions) store index id now counters kinds verdicts) received left list) (out : Out)
+        (g : flag ≡ false) (received : Received) (left list passed : List ℕ)
+        (r : LeavesBatch (receive (c .sessions) store index id now counters kinds verdicts skips) received left list passed) (out : Out)
       where
-        pub way-rejected : (number : ℕ) → received ≡ Rejected number → out ≡ refuse c number → Commits out left list
+        pub way-rejected : (number : ℕ) → received ≡ Rejected number → out ≡ refuse c number → Commits out left list passed
         unfolding commitDecapsulate choose
-        way-rejected number p o = rw (← f, g) (record { out = is-rejected received _ _ _ _ (r .out) number p o; words = r .words; list = r .list })
+        way-rejected number p o = rw (← f, g) (record { out = is-rejected received _ _ _ _ (r .out) number p o; words = r .words; list = r .list; skip-list = r .skip-list })
 
         pub way-judged : (session : Session) (progress : Progress) → received ≡ Judged session progress → out ≡ done (accept c session progress index now) Done
-            → Commits out left list
+            → Commits out left list passed
         unfolding commitDecapsulate choose
         way-judged session progress p o =
-            rw (← f, g) (record { out = is-judged received _ _ _ _ (r .out) session progress p o; words = r .words; list = r .list })
+            rw (← f, g) (record { out = is-judged received _ _ _ _ (r .out) session progress p o; words = r .words; list = r .list; skip-list = r .skip-list })

@@ -38,10 +38,11 @@ pub record TurnWays (c : Control) (store : List ℕ) (turn : Turn) : Type 0 wher
   pub out : Ways c (turn .out)
   pub words : TurnedDown (turn .out .answer) → turn .store ≡ store
 
-pub record BatchWays (c : Control) (store verdicts : List ℕ) (batch : Batched Out) : Type 0 where
+pub record BatchWays (c : Control) (store verdicts skips : List ℕ) (batch : Batched Out) : Type 0 where
   pub out : Ways c (batch .out)
   pub words : TurnedDown (batch .out .answer) → batch .store ≡ store
   pub list : TurnedDown (batch .out .answer) → batch .verdicts ≡ verdicts
+  pub skip-list : TurnedDown (batch .out .answer) → batch .skips ≡ skips
 
 -- a tunnel that its operation leaves as it came
 pub settled-same : (t : Tunnel) (now : ℕ) (out : Out) → Untouched (t .control) out → settled t now out .tunnel ≡ t
@@ -84,14 +85,14 @@ module _ (t : Tunnel) (bad : Bool) (now : ℕ) where
       go true e = rw e (p (eqb-true _ 0 e))
       go false e = rw e (q (eqb-false _ 0 e))
 
-  pub of-batch : (P : Batched Answered → Type 0) (store verdicts : List ℕ) (batch : Batched Out)
-      → (Passed → P (record { out = settled t now (batch .out); store = batch .store; verdicts = batch .verdicts }))
-      → ((Passed → ⊥) → P (record { out = refused t (gate t bad now); store = store; verdicts = verdicts }))
-      → P (timedBatch t bad now store verdicts batch)
+  pub of-batch : (P : Batched Answered → Type 0) (store verdicts skips : List ℕ) (batch : Batched Out)
+      → (Passed → P (record { out = settled t now (batch .out); store = batch .store; verdicts = batch .verdicts; skips = batch .skips }))
+      → ((Passed → ⊥) → P (record { out = refused t (gate t bad now); store = store; verdicts = verdicts; skips = skips }))
+      → P (timedBatch t bad now store verdicts skips batch)
   unfolding timedBatch timed kept choose
-  of-batch P store verdicts batch p q = go (eqb (gate t bad now) 0) refl
+  of-batch P store verdicts skips batch p q = go (eqb (gate t bad now) 0) refl
     where
-      go : (b : Bool) → eqb (gate t bad now) 0 ≡ b → P (timedBatch t bad now store verdicts batch)
+      go : (b : Bool) → eqb (gate t bad now) 0 ≡ b → P (timedBatch t bad now store verdicts skips batch)
       go true e = rw e (p (eqb-true _ 0 e))
       go false e = rw e (q (eqb-false _ 0 e))
 
@@ -115,16 +116,19 @@ module _ (t : Tunnel) (bad : Bool) (now : ℕ) where
       (λ z d. (settled-same t now (turn .out) (k z .out .down d), k z .words d))
       (λ z d. (refl, refl))
 
-  pub batch-down : (store verdicts : List ℕ) (batch : Batched Out) → (Passed → BatchWays (t .control) store verdicts batch)
-      → TurnedDown (timedBatch t bad now store verdicts batch .out .answer)
-      → (timedBatch t bad now store verdicts batch .out .tunnel ≡ t)
-      × (timedBatch t bad now store verdicts batch .store ≡ store)
-      × (timedBatch t bad now store verdicts batch .verdicts ≡ verdicts)
+  pub batch-down : (store verdicts skips : List ℕ) (batch : Batched Out) → (Passed → BatchWays (t .control) store verdicts skips batch)
+      → TurnedDown (timedBatch t bad now store verdicts skips batch .out .answer)
+      → (timedBatch t bad now store verdicts skips batch .out .tunnel ≡ t)
+      × (timedBatch t bad now store verdicts skips batch .store ≡ store)
+      × (timedBatch t bad now store verdicts skips batch .verdicts ≡ verdicts)
+      × (timedBatch t bad now store verdicts skips batch .skips ≡ skips)
   unfolding settled refused
-  batch-down store verdicts batch k =
-      of-batch (λ (a : Batched Answered). TurnedDown (a .out .answer) → (a .out .tunnel ≡ t) × (a .store ≡ store) × (a .verdicts ≡ verdicts)) store verdicts batch
-      (λ z d. (settled-same t now (batch .out) (k z .out .down d), k z .words d, k z .list d))
-      (λ z d. (refl, refl, refl))
+  batch-down store verdicts skips batch k =
+      of-batch
+      (λ (a : Batched Answered).
+      TurnedDown (a .out .answer) → (a .out .tunnel ≡ t) × (a .store ≡ store) × (a .verdicts ≡ verdicts) × (a .skips ≡ skips)) store verdicts skips batch
+      (λ z d. (settled-same t now (batch .out) (k z .out .down d), k z .words d, k z .list d, k z .skip-list d))
+      (λ z d. (refl, refl, refl, refl))
 
   -- not turned down, it raises the greatest time
   pub timed-up : (out : Out) → (Passed → numberOf (out .answer) ≡ 0 → out .raises ≡ true) → numberOf (timed t bad now out .answer) ≡ 0

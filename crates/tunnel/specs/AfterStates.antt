@@ -72,10 +72,11 @@ pub record AfterStates (t : Tunnel) (store : List ℕ) : Type 0 where
       → callSend t count now .tunnel ≡ t
   -- a send by 12 that found a session has marked it, ticked both send timers and raised the greatest time
   pub sendTooFew : (count now : ℕ) (session : Session) → FoundTooFew t count now session → callSend t count now .tunnel ≡ withDataMarked t session now
-  pub receive : (index id now : ℕ) (counters kinds verdicts : List ℕ) → TurnedDown (callReceive t store index id now counters kinds verdicts .out .answer)
-      → (callReceive t store index id now counters kinds verdicts .out .tunnel ≡ t)
-      × (callReceive t store index id now counters kinds verdicts .store ≡ store)
-      × (callReceive t store index id now counters kinds verdicts .verdicts ≡ verdicts)
+  pub receive : (index id now : ℕ) (counters kinds verdicts skips : List ℕ) → TurnedDown (callReceive t store index id now counters kinds verdicts skips .out .answer)
+      → (callReceive t store index id now counters kinds verdicts skips .out .tunnel ≡ t)
+      × (callReceive t store index id now counters kinds verdicts skips .store ≡ store)
+      × (callReceive t store index id now counters kinds verdicts skips .verdicts ≡ verdicts)
+      × (callReceive t store index id now counters kinds verdicts skips .skips ≡ skips)
   pub initiation : (peer outcome now : ℕ) → TurnedDown (callInitiation t store peer outcome now .answered .answer)
       → (OfOutcome (numberOf (callInitiation t store peer outcome now .answered .answer)) → ⊥)
       → callInitiation t store peer outcome now .answered .tunnel ≡ t
@@ -106,9 +107,9 @@ pub record GreatestLaw (t : Tunnel) (store : List ℕ) : Type 0 where
   pub start : (now : ℕ) → numberOf (callStart t now .answer) ≡ 0 → callStart t now .tunnel .greatest ≡ now
   pub restart : (now : ℕ) → numberOf (callRestart t now .answer) ≡ 0 → callRestart t now .tunnel .greatest ≡ now
   pub send : (count now : ℕ) → numberOf (callSend t count now .answer) ≡ 0 → callSend t count now .tunnel .greatest ≡ now
-  pub receive : (index id now : ℕ) (counters kinds verdicts : List ℕ)
-      → numberOf (callReceive t store index id now counters kinds verdicts .out .answer) ≡ 0
-      → callReceive t store index id now counters kinds verdicts .out .tunnel .greatest ≡ now
+  pub receive : (index id now : ℕ) (counters kinds verdicts skips : List ℕ)
+      → numberOf (callReceive t store index id now counters kinds verdicts skips .out .answer) ≡ 0
+      → callReceive t store index id now counters kinds verdicts skips .out .tunnel .greatest ≡ now
   pub initiation : (peer outcome now : ℕ) → numberOf (callInitiation t store peer outcome now .answered .answer) ≡ 0
       → callInitiation t store peer outcome now .answered .tunnel .greatest ≡ now
   pub response : (receiver peer outcome now : ℕ) → numberOf (callResponse t store receiver peer outcome now .answered .answer) ≡ 0
@@ -124,10 +125,11 @@ IsExpired t = t .control .handshake .state ≡ Expired
 -- Calls that are not turned down and raise the greatest time only, the deadline of an expired tunnel, and what the event call takes.
 pub record StillLaw (t : Tunnel) (store : List ℕ) : Type 0 where
   -- an empty batch
-  pub batch : (index id now : ℕ) → numberOf (callReceive t store index id now [] [] [] .out .answer) ≡ 0
-      → (callReceive t store index id now [] [] [] .out .tunnel ≡ withGreatest t now)
-      × (callReceive t store index id now [] [] [] .store ≡ store)
-      × (callReceive t store index id now [] [] [] .verdicts ≡ [])
+  pub batch : (index id now : ℕ) → numberOf (callReceive t store index id now [] [] [] [] .out .answer) ≡ 0
+      → (callReceive t store index id now [] [] [] [] .out .tunnel ≡ withGreatest t now)
+      × (callReceive t store index id now [] [] [] [] .store ≡ store)
+      × (callReceive t store index id now [] [] [] [] .verdicts ≡ [])
+      × (callReceive t store index id now [] [] [] [] .skips ≡ [])
   -- waking, starting or restarting an expired tunnel, which answer nothing
   pub timeout : (jitter now : ℕ) → IsExpired t → numberOf (callTimeout t store jitter now .answered .answer) ≡ 0
       → (callTimeout t store jitter now .answered .answer ≡ NoAnswer)
@@ -159,7 +161,7 @@ pub record ExpiredLaw (t : Tunnel) (store : List ℕ) : Type 0 where
   pub start : (now : ℕ) → NoneCurrent (callStart t now .tunnel)
   pub restart : (now : ℕ) → NoneCurrent (callRestart t now .tunnel)
   pub send : (count now : ℕ) → NoneCurrent (callSend t count now .tunnel)
-  pub receive : (index id now : ℕ) (counters kinds verdicts : List ℕ) → NoneCurrent (callReceive t store index id now counters kinds verdicts .out .tunnel)
+  pub receive : (index id now : ℕ) (counters kinds verdicts skips : List ℕ) → NoneCurrent (callReceive t store index id now counters kinds verdicts skips .out .tunnel)
   pub look : (index counter now : ℕ) → NoneCurrent (callLook t store index counter now .tunnel)
   pub initiation : (peer outcome now : ℕ) → NoneCurrent (callInitiation t store peer outcome now .answered .tunnel)
   pub response : (receiver peer outcome now : ℕ) → NoneCurrent (callResponse t store receiver peer outcome now .answered .tunnel)

@@ -36,8 +36,8 @@ unfoldable pub badJitter : ℕ → List ℕ → Bool
 badJitter jitter store = choose (ltb maxJitter jitter) true (lacking store)
 
 -- whether number 2 turns down a batch's lists or the store that comes with them
-unfoldable pub badBatch : (store counters kinds verdicts : List ℕ) → Bool
-badBatch store counters kinds verdicts = choose (lacking store) true (choose (fits counters kinds verdicts) false true)
+unfoldable pub badBatch : (store counters kinds verdicts skips : List ℕ) → Bool
+badBatch store counters kinds verdicts skips = choose (lacking store) true (choose (fits counters kinds verdicts skips) false true)
 
 -- the number that turns a creation down, or 0
 unfoldable pub creationNumber : List ℕ → (keepalive now : ℕ) → ℕ

@@ -35,14 +35,15 @@ accept c session progress index now =
     (withSessions c stored)
 
 -- the messages of a batch accepted after a check of its session and of their counters
-unfoldable pub commitDecapsulate : Control → List ℕ → (index id now : ℕ) → (counters kinds verdicts : List ℕ) → Batched Out
-commitDecapsulate c store index id now counters kinds verdicts =
-    let received : Batched Received = receive (c .sessions) store index id now counters kinds verdicts in
-    choose (expiredControl c) (untouched (refuse c 11) store verdicts)
+unfoldable pub commitDecapsulate : Control → List ℕ → (index id now : ℕ) → (counters kinds verdicts skips : List ℕ) → Batched Out
+commitDecapsulate c store index id now counters kinds verdicts skips =
+    let received : Batched Received = receive (c .sessions) store index id now counters kinds verdicts skips in
+    choose (expiredControl c) (untouched (refuse c 11) store verdicts skips)
     (record {
       out = caseReceived (received .out) (λ number. refuse c number) (λ session progress. done (accept c session progress index now) Done);
       store = received .store;
       verdicts = received .verdicts;
+      skips = received .skips;
     })
 
 -- the early look at a data message

@@ -36,8 +36,8 @@ pub record SettingLaw (t : Tunnel) (store : List ℕ) : Type 0 where
   pub start : (now : ℕ) → settingOf (callStart t now .tunnel) ≡ settingOf t
   pub restart : (now : ℕ) → settingOf (callRestart t now .tunnel) ≡ settingOf t
   pub send : (count now : ℕ) → settingOf (callSend t count now .tunnel) ≡ settingOf t
-  pub receive : (index id now : ℕ) (counters kinds verdicts : List ℕ)
-      → settingOf (callReceive t store index id now counters kinds verdicts .out .tunnel) ≡ settingOf t
+  pub receive : (index id now : ℕ) (counters kinds verdicts skips : List ℕ)
+      → settingOf (callReceive t store index id now counters kinds verdicts skips .out .tunnel) ≡ settingOf t
   pub look : (index counter now : ℕ) → settingOf (callLook t store index counter now .tunnel) ≡ settingOf t
   pub initiation : (peer outcome now : ℕ) → settingOf (callInitiation t store peer outcome now .answered .tunnel) ≡ settingOf t
   pub response : (receiver peer outcome now : ℕ) → settingOf (callResponse t store receiver peer outcome now .answered .tunnel) ≡ settingOf t

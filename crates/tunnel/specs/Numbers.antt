@@ -59,9 +59,9 @@ pub record NumbersLaw (t : Tunnel) (store : List ℕ) : Type 0 where
   pub restart : (now : ℕ) → FirstFailing (numberOf (callRestart t now .answer)) (Timely now) Always (Undamaged t) (Onward t now) Always
   pub send : (count now : ℕ)
       → FirstFailing (numberOf (callSend t count now .answer)) (Timely now) (1 ≤ count) (Undamaged t) (Onward t now) (Alive t)
-  pub receive : (index id now : ℕ) (counters kinds verdicts : List ℕ)
-      → FirstFailing (numberOf (callReceive t store index id now counters kinds verdicts .out .answer)) (Timely now)
-      (IsStore store × IsBatch counters kinds verdicts) (Undamaged t) (Onward t now) (Alive t)
+  pub receive : (index id now : ℕ) (counters kinds verdicts skips : List ℕ)
+      → FirstFailing (numberOf (callReceive t store index id now counters kinds verdicts skips .out .answer)) (Timely now)
+      (IsStore store × IsBatch counters kinds verdicts skips) (Undamaged t) (Onward t now) (Alive t)
   pub look : (index counter now : ℕ)
       → FirstFailing (numberOf (callLook t store index counter now .answer)) (Timely now) (IsStore store) (Undamaged t) (Onward t now) (Alive t)
   pub initiation : (peer outcome now : ℕ)

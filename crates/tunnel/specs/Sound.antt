@@ -20,8 +20,8 @@ pub record SoundLaw (t : Tunnel) : Type 0 where
   pub start : (now : ℕ) → Sound (callStart t now .tunnel)
   pub restart : (now : ℕ) → Sound (callRestart t now .tunnel)
   pub send : (count now : ℕ) → Sound (callSend t count now .tunnel)
-  pub receive : (store : List ℕ) (index id now : ℕ) (counters kinds verdicts : List ℕ)
-      → Sound (callReceive t store index id now counters kinds verdicts .out .tunnel)
+  pub receive : (store : List ℕ) (index id now : ℕ) (counters kinds verdicts skips : List ℕ)
+      → Sound (callReceive t store index id now counters kinds verdicts skips .out .tunnel)
   pub look : (store : List ℕ) (index counter now : ℕ) → Sound (callLook t store index counter now .tunnel)
   pub initiation : (store : List ℕ) (peer outcome now : ℕ) → Sound (callInitiation t store peer outcome now .answered .tunnel)
   pub response : (store : List ℕ) (receiver peer outcome now : ℕ) → Sound (callResponse t store receiver peer outcome now .answered .tunnel)
@@ -33,8 +33,8 @@ pub record SoundLaw (t : Tunnel) : Type 0 where
 
 -- Every call that changes the store hands it back with 1,024 words if it came with so many, whatever the tunnel.
 pub record StoreLaw (t : Tunnel) (store : List ℕ) : Type 0 where
-  pub receive : (index id now : ℕ) (counters kinds verdicts : List ℕ)
-      → length (callReceive t store index id now counters kinds verdicts .store) ≡ 1024
+  pub receive : (index id now : ℕ) (counters kinds verdicts skips : List ℕ)
+      → length (callReceive t store index id now counters kinds verdicts skips .store) ≡ 1024
   pub initiation : (peer outcome now : ℕ) → length (callInitiation t store peer outcome now .store) ≡ 1024
   pub response : (receiver peer outcome now : ℕ) → length (callResponse t store receiver peer outcome now .store) ≡ 1024
   pub timeout : (jitter now : ℕ) → length (callTimeout t store jitter now .store) ≡ 1024

@@ -83,12 +83,13 @@ unfoldable pub timedTurn : Tunnel → Bool → ℕ → List ℕ → Turn → Cal
 timedTurn t bad now store turn = record { answered = timed t bad now (turn .out); store = kept t bad now store (turn .store) }
 
 -- the frame of a batch
-unfoldable pub timedBatch : Tunnel → Bool → ℕ → (store verdicts : List ℕ) → Batched Out → Batched Answered
-timedBatch t bad now store verdicts batch =
+unfoldable pub timedBatch : Tunnel → Bool → ℕ → (store verdicts skips : List ℕ) → Batched Out → Batched Answered
+timedBatch t bad now store verdicts skips batch =
     record {
       out = timed t bad now (batch .out);
       store = kept t bad now store (batch .store);
       verdicts = kept t bad now verdicts (batch .verdicts);
+      skips = kept t bad now skips (batch .skips);
     }
 
 -- creation: turned down, the tunnel made from index 0, no keepalive and time 0, and the store as it came
@@ -111,10 +112,10 @@ unfoldable pub callSend : Tunnel → (count now : ℕ) → Answered
 callSend t count now = timed t (eqb count 0) now (send (t .control) count now)
 
 -- receiving
-unfoldable pub callReceive : Tunnel → List ℕ → (index id now : ℕ) → (counters kinds verdicts : List ℕ) → Batched Answered
-callReceive t store index id now counters kinds verdicts =
-    timedBatch t (badBatch store counters kinds verdicts) now store verdicts
-    (commitDecapsulate (t .control) store index id now counters kinds verdicts)
+unfoldable pub callReceive : Tunnel → List ℕ → (index id now : ℕ) → (counters kinds verdicts skips : List ℕ) → Batched Answered
+callReceive t store index id now counters kinds verdicts skips =
+    timedBatch t (badBatch store counters kinds verdicts skips) now store verdicts skips
+    (commitDecapsulate (t .control) store index id now counters kinds verdicts skips)
 
 -- the early look
 unfoldable pub callLook : Tunnel → List ℕ → (index counter now : ℕ) → Answered

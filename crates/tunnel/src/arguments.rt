@@ -83,13 +83,19 @@ pub(crate) fn bad_jitter(jitter: u64, store: &[u64]) -> bool
 }
 
 // Whether number 2 turns down a batch's lists or the store that comes with them.
-pub(crate) fn bad_batch(store: &[u64], counters: &[u64], kinds: &[u8], verdicts: &[u8]) -> bool
-    ensures { λ r. ⌜ r ≡ badBatch (now (store .entry)) (now (counters .entry)) (now (kinds .entry)) (now (verdicts .entry)) ⌝ }
+pub(crate) fn bad_batch(
+    store: &[u64],
+    counters: &[u64],
+    kinds: &[u8],
+    verdicts: &[u8],
+    skips: &[u64],
+) -> bool
+    ensures { λ r. ⌜ r ≡ badBatch (now (store .entry)) (now (counters .entry)) (now (kinds .entry)) (now (verdicts .entry)) (now (skips .entry)) ⌝ }
 {
     if lacks(store) {
         return true;
     }
-    if fits(counters, kinds, verdicts) {
+    if fits(counters, kinds, verdicts, skips) {
         return false;
     }
     true

@@ -56,15 +56,16 @@ impl Control {
         counters: &[u64],
         kinds: &[u8],
         verdicts: &mut [u8],
+        skips: &mut [u64],
     ) -> Out
         requires { ⌜ RingWithin (self .events) ⌝ }
-        ensures { λ r. ⌜ LeavesBatch (commitDecapsulate self (store .entry .now) index id now (counters .entry .now) (kinds .entry .now) (verdicts .entry .now)) r (store .exit .now) (verdicts .exit .now) ⌝ }
+        ensures { λ r. ⌜ LeavesBatch (commitDecapsulate self (store .entry .now) index id now (counters .entry .now) (kinds .entry .now) (verdicts .entry .now) (skips .entry .now)) r (store .exit .now) (verdicts .exit .now) (skips .exit .now) ⌝ }
     {
         if self.is_expired() {
             return self.refuse(11);
         }
         let received = self.sessions
-            .receive(store, index, id, now, counters, kinds, verdicts);
+            .receive(store, index, id, now, counters, kinds, verdicts, skips);
         match received {
             Received::Rejected(number) => return self.refuse(number),
             Received::Judged(session, progress) => {

@@ -161,7 +161,8 @@ impl Tunnel {
         self.settled(now, self.control.send(count, now))
     }
 
-    // Commits a batch to the session with this local index and session id, and fills in the verdicts.
+    // Commits a batch to the session with this local index and session id, and fills in the verdicts and the
+    // skips.
     pub fn receive(
         self,
         store: &mut [u64],
@@ -171,17 +172,18 @@ impl Tunnel {
         counters: &[u64],
         kinds: &[u8],
         verdicts: &mut [u8],
+        skips: &mut [u64],
     ) -> Answered
-        ensures { λ r. ⌜ LeavesBatch (callReceive self (store .entry .now) index id now (counters .entry .now) (kinds .entry .now) (verdicts .entry .now)) r (store .exit .now) (verdicts .exit .now) ⌝ }
+        ensures { λ r. ⌜ LeavesBatch (callReceive self (store .entry .now) index id now (counters .entry .now) (kinds .entry .now) (verdicts .entry .now) (skips .entry .now)) r (store .exit .now) (verdicts .exit .now) (skips .exit .now) ⌝ }
     {
-        let bad = bad_batch(store, counters, kinds, verdicts);
+        let bad = bad_batch(store, counters, kinds, verdicts, skips);
         let sound = self.undamaged();
         let number = gate(bad, sound, self.greatest, now);
         if number != 0 {
             return self.refused(number);
         }
         let out = self.control
-            .commit_decapsulate(store, index, id, now, counters, kinds, verdicts);
+            .commit_decapsulate(store, index, id, now, counters, kinds, verdicts, skips);
         self.settled(now, out)
     }
 

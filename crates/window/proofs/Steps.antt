@@ -13,7 +13,7 @@ use lib.Pow.{shl-exact}
 use Rattle.base.specs.Bits.{bit}
 use Rattle.base.specs.Lists.{zeros}
 use Rattle.base.proofs.Choice.{picks, yes-le, no-le, yes-eq, no-eq}
-use Rattle.window.specs.Window.{wordOf, bitOf, bitAt, checkBit, setBit, clearBit, clears, advance, isInvalid, willAccept, nextAfter, wordsAfter, markDidReceive, Marks}
+use Rattle.window.specs.Window.{wordOf, bitOf, bitAt, checkBit, setBit, clearBit, clears, advance, isInvalid, willAccept, nextAfter, wordsAfter, skippedBy, markDidReceive, Marks}
 use Rattle.window.proofs.Ready.{advance-none}
 use Rattle.base.proofs.Sums.{Fitting}
 use Rattle.window.proofs.Words.{clears-add, length-clears, whole-word}
@@ -99,26 +99,28 @@ word-put ws from word long edge w f = rw w (whole-word ws from long edge f)
 
 -- a verdict other than 0 changes nothing; a verdict of 0 sets the counter's bit and may move `next`
 module _ (ws : List ℕ) (next c : ℕ) where
-  refused : (v : ℕ) → v ≡ willAccept ws next c → (v ≡ 0 → ⊥) → Marks ws ws next c (record { verdict = v; next = next })
-  unfolding markDidReceive nextAfter wordsAfter
+  refused : (v : ℕ) → v ≡ willAccept ws next c → (v ≡ 0 → ⊥) → Marks ws ws next c (record { verdict = v; next = next; skipped = 0 })
+  unfolding markDidReceive nextAfter wordsAfter skippedBy
   refused v e h =
       let verdict : willAccept ws next c ≡ 0 → ⊥ = λ z. h (e ∙ z) in
       let next-same : next ≡ nextAfter ws next c = no-eq _ _ next _ _ verdict refl in
+      let none : 0 ≡ skippedBy ws next c = no-eq _ _ 0 _ _ verdict refl in
       record { out = cc; left = no-eq _ _ ws _ _ verdict refl }
 
-  taken : (last : List ℕ) (n : ℕ) → 0 ≡ willAccept ws next c → last ≡ setBit (advance ws next c) c → n ≡ max next (c + 1)
-      → Marks ws last next c (record { verdict = 0; next = n })
-  unfolding markDidReceive nextAfter wordsAfter
-  taken last n e l m =
+  taken : (last : List ℕ) (n k : ℕ) → 0 ≡ willAccept ws next c → last ≡ setBit (advance ws next c) c → n ≡ max next (c + 1) → k ≡ c - next
+      → Marks ws last next c (record { verdict = 0; next = n; skipped = k })
+  unfolding markDidReceive nextAfter wordsAfter skippedBy
+  taken last n k e l m d =
       let moved : n ≡ nextAfter ws next c = yes-eq _ _ n _ _ (sym e) m in
+      let over : k ≡ skippedBy ws next c = yes-eq _ _ k _ _ (sym e) d in
       record { out = cc; left = yes-eq _ _ last _ _ (sym e) l }
 
-  pub way-wrong : (length ws ≡ 128 → ⊥) → Marks ws ws next c (record { verdict = 2; next = next })
+  pub way-wrong : (length ws ≡ 128 → ⊥) → Marks ws ws next c (record { verdict = 2; next = next; skipped = 0 })
   unfolding willAccept
   way-wrong h = refused 2 (search (picks)) (λ z. omega arith)
 
   module _ (long : length ws ≡ 128) where
-    pub way-invalid : (flag : Bool) → flag ≡ isInvalid next c → flag ≡ true → Marks ws ws next c (record { verdict = 9; next = next })
+    pub way-invalid : (flag : Bool) → flag ≡ isInvalid next c → flag ≡ true → Marks ws ws next c (record { verdict = 9; next = next; skipped = 0 })
     unfolding willAccept
     way-invalid flag f t = refused 9 (search (picks)) (λ z. omega arith)
 
@@ -127,17 +129,17 @@ module _ (ws : List ℕ) (next c : ℕ) where
       unfolding willAccept
       ahead h = search (picks)
 
-      pub way-next : (last : List ℕ) → c ≡ next → last ≡ setBit ws c → Marks ws last next c (record { verdict = 0; next = next + 1 })
-      way-next last e l = taken last (next + 1) (ahead (omega arith)) (l ∙ ap (λ (x : List ℕ). setBit x c) (advance-none ws next c (omega arith))) (omega arith)
+      pub way-next : (last : List ℕ) → c ≡ next → last ≡ setBit ws c → Marks ws last next c (record { verdict = 0; next = next + 1; skipped = 0 })
+      way-next last e l = taken last (next + 1) 0 (ahead (omega arith)) (l ∙ ap (λ (x : List ℕ). setBit x c) (advance-none ws next c (omega arith))) (omega arith) (omega arith)
 
-      pub way-ahead : (mid last : List ℕ) → next ≤ c → mid ≡ advance ws next c → last ≡ setBit mid c → Marks ws last next c (record { verdict = 0; next = c + 1 })
-      way-ahead mid last h m l = taken last (c + 1) (ahead h) (l ∙ ap (λ (x : List ℕ). setBit x c) m) (omega arith)
+      pub way-ahead : (mid last : List ℕ) → next ≤ c → mid ≡ advance ws next c → last ≡ setBit mid c → Marks ws last next c (record { verdict = 0; next = c + 1; skipped = c - next })
+      way-ahead mid last h m l = taken last (c + 1) (c - next) (ahead h) (l ∙ ap (λ (x : List ℕ). setBit x c) m) (omega arith) refl
 
       module _ (set : Bool) (behind : c < next) (g : set ≡ checkBit ws c) where
-        pub way-seen : set ≡ true → Marks ws ws next c (record { verdict = 10; next = next })
+        pub way-seen : set ≡ true → Marks ws ws next c (record { verdict = 10; next = next; skipped = 0 })
         unfolding willAccept
         way-seen t = refused 10 (search (picks)) (λ z. omega arith)
 
-        pub way-late : (last : List ℕ) → set ≡ false → last ≡ setBit ws c → Marks ws last next c (record { verdict = 0; next = next })
+        pub way-late : (last : List ℕ) → set ≡ false → last ≡ setBit ws c → Marks ws last next c (record { verdict = 0; next = next; skipped = 0 })
         unfolding willAccept
-        way-late last t l = taken last next (search (picks)) (l ∙ ap (λ (x : List ℕ). setBit x c) (advance-none ws next c (omega arith))) (omega arith)
+        way-late last t l = taken last next 0 (search (picks)) (l ∙ ap (λ (x : List ℕ). setBit x c) (advance-none ws next c (omega arith))) (omega arith) (omega arith)

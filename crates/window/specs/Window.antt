@@ -67,9 +67,14 @@ nextAfter words next counter = choose (eqb (willAccept words next counter) 0) (m
 unfoldable pub wordsAfter : List ℕ → ℕ → ℕ → List ℕ
 wordsAfter words next counter = choose (eqb (willAccept words next counter) 0) (setBit (advance words next counter) counter) words
 
+-- how many counters a commit skips: the counter less `next`, which leaves 0 where it is not ahead; none where it is turned down
+unfoldable pub skippedBy : List ℕ → ℕ → ℕ → ℕ
+skippedBy words next counter = choose (eqb (willAccept words next counter) 0) (counter - next) 0
+
 -- what committing a counter answers
 unfoldable pub markDidReceive : List ℕ → ℕ → ℕ → Marked
-markDidReceive words next counter = record { verdict = willAccept words next counter; next = nextAfter words next counter }
+markDidReceive words next counter =
+    record { verdict = willAccept words next counter; next = nextAfter words next counter; skipped = skippedBy words next counter }
 
 -- a commit's answer and the words that it leaves
 pub record Marks (words last : List ℕ) (next counter : ℕ) (answer : Marked) : Type 0 where

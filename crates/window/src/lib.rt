@@ -23,10 +23,12 @@ const N_WORDS: usize = 128;
 // The counters that a window spans.
 const N_BITS: u64 = 8192;
 
-// What committing a counter answers: its verdict (0, 9 or 10; 2 where the words are not 128) and the next expected counter.
+// What committing a counter answers: its verdict (0, 9 or 10; 2 where the words are not 128), the next expected counter, and how many
+// counters it skipped.
 pub struct Marked {
     pub verdict: u8,
     pub next: u64,
+    pub skipped: u64,
 }
 
 // The place of the word that holds the bit of `counter`.
@@ -180,30 +182,48 @@ pub fn mark_did_receive(words: &mut [u64], next: u64, counter: u64) -> Marked
     ensures { λ r. ⌜ Marks (now (words .entry)) (now (words .exit)) next counter r ⌝ }
 {
     if words.len() != N_WORDS {
-        return Marked { verdict: 2, next };
+        return Marked {
+            verdict: 2,
+            next,
+            skipped: 0,
+        };
     }
     if is_invalid(next, counter) {
-        return Marked { verdict: 9, next };
+        return Marked {
+            verdict: 9,
+            next,
+            skipped: 0,
+        };
     }
     if counter == next {
         set_bit(words, counter);
         return Marked {
             verdict: 0,
             next: next + 1,
+            skipped: 0,
         };
     }
     if counter < next {
         if check_bit(words, counter) {
-            return Marked { verdict: 10, next };
+            return Marked {
+                verdict: 10,
+                next,
+                skipped: 0,
+            };
         }
         set_bit(words, counter);
-        return Marked { verdict: 0, next };
+        return Marked {
+            verdict: 0,
+            next,
+            skipped: 0,
+        };
     }
     clear_skipped(words, next, counter);
     set_bit(words, counter);
     Marked {
         verdict: 0,
         next: counter + 1,
+        skipped: counter - next,
     }
 }
 

@@ -1,5 +1,5 @@
 // Replays on the window the lines that the Rust's window was given, `reset`, `look COUNTER` and `commit COUNTER`, and writes what it
-// answers: `ok`; the verdict; the verdict, the next expected counter and the number of set bits.
+// answers: `ok`; the verdict; the verdict, the next expected counter, the number of set bits and the skipped counters.
 
 // The line read so far: its first letter and its number.
 struct Line {
@@ -83,6 +83,8 @@ fn commit(words: &mut [u64], next: u64, counter: u64) -> u64 {
     io::print_decimal(1, marked.next);
     io::write_all(1, b" ");
     io::print_decimal(1, count_ones(words));
+    io::write_all(1, b" ");
+    io::print_decimal(1, marked.skipped);
     marked.next
 }
 

@@ -83,7 +83,7 @@ impl Iterator for Exhaustive {
     }
 }
 
-/// The script of a word: a tunnel, each letter with the deadline after it, and the events.
+/// The script of a word: a tunnel, each letter with the deadline after it, the skips after each batch, the events and the skips.
 fn spell(word: impl Iterator<Item = Letter>) -> Script {
     let mut speller = Speller {
         driver: Driver::new(),
@@ -95,8 +95,12 @@ fn spell(word: impl Iterator<Item = Letter>) -> Script {
         let line = speller.line(letter);
         speller.ask(line);
         speller.ask("next".to_string());
+        if matches!(letter, Letter::Recv) {
+            speller.ask("skips".to_string());
+        }
     }
     while !matches!(speller.ask("event".to_string()), Some(Answer::None)) {}
+    speller.ask("skips".to_string());
 
     Script {
         lines: speller.lines,

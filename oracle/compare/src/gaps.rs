@@ -1,4 +1,4 @@
-//! The gap scripts: windows of every length that document 02's note 2 tells apart, with the missing report after each commit.
+//! The gap scripts: windows of every length that document 02's note 2 tells apart, with the skips and the missing report after each commit.
 
 use oracle::{Answer, Driver};
 
@@ -17,6 +17,8 @@ pub(crate) const JUMPS: [u64; 11] = [
 const LAST: u64 = 8_330;
 /// The most counters of a full window.
 const WINDOW: u64 = 8_192;
+/// The most messages of a batch.
+const MAX_BATCH: u64 = 1_024;
 
 /// All gap scripts with the names they are reported by.
 pub fn gap_scripts() -> Vec<(String, Script)> {
@@ -29,6 +31,7 @@ pub fn gap_scripts() -> Vec<(String, Script)> {
         ("a session replaced".to_string(), replaced()),
         ("an index again".to_string(), returned()),
         ("ends".to_string(), ends()),
+        ("batches".to_string(), batches()),
     ];
     for first in 0..3 {
         parts.push((format!("every third from {first}"), grown(first, 3)));
@@ -106,15 +109,29 @@ impl Gaps {
         self.lines.push(line.into_bytes());
     }
 
-    /// Receives one message on a session and asks for its missing report.
+    /// Asks for the skips.
+    fn skips(&mut self) {
+        self.lines.push(b"skips".to_vec());
+    }
+
+    /// Receives one message on a session and asks for its skip and the session's missing report.
     fn receive(&mut self, session: Session, counter: u64, opening: char) {
         let Session { index, id } = session;
 
         self.ask(format!("recv {index} {id} 0 {counter} {opening}"));
+        self.skips();
         self.missing(session);
     }
 
-    /// Commits counters one by one, with the missing report after each.
+    /// Receives a batch on a session and asks for its skips.
+    fn batch(&mut self, session: Session, messages: &str) {
+        let Session { index, id } = session;
+
+        self.ask(format!("recv {index} {id} 0 {messages}"));
+        self.skips();
+    }
+
+    /// Commits counters one by one, with the skip and the missing report after each.
     fn commit(&mut self, session: Session, counters: impl Iterator<Item = u64>) {
         for counter in counters {
             self.receive(session, counter, 'd');
@@ -235,17 +252,52 @@ fn ends() -> Gaps {
     let end = 180 * SECOND;
     gaps.commit(session, [0, 1, 2, 3, 4, 9].into_iter());
 
-    gaps.ask(format!("recv {index} {id} {end} 10 d"));
-    gaps.missing(session);
-    gaps.ask(format!("wake 0 {end}"));
-    gaps.missing(session);
-    gaps.ask(format!("wake 0 {}", 3 * end));
-    gaps.missing(session);
-    gaps.ask("new 507 65536 0".to_string());
-    gaps.missing(session);
-    gaps.ask("new 507 0 0".to_string());
-    gaps.missing(session);
+    for line in [
+        format!("recv {index} {id} {end} 10 d"),
+        format!("wake 0 {end}"),
+        format!("wake 0 {}", 3 * end),
+        format!("recv {index} {id} {} 11 d", 3 * end),
+        "new 507 65536 0".to_string(),
+        "new 507 0 0".to_string(),
+    ] {
+        gaps.ask(line);
+        gaps.skips();
+        gaps.missing(session);
+    }
     let session = gaps.session();
     gaps.commit(session, [4, 0].into_iter());
+    gaps
+}
+
+/// Batches of a jump among messages that skip nothing, and what is turned down or empty after them.
+fn batches() -> Gaps {
+    let (mut gaps, session) = Gaps::with_session();
+    let Session { index, id } = session;
+    let mut next = 0;
+    gaps.skips();
+
+    for jump in [0, 1, 2].into_iter().chain(JUMPS) {
+        let ahead = next + jump;
+        let [before, old] = [1, WINDOW].map(|back| ahead.saturating_sub(back));
+        let messages = format!(
+            "{before} f {ahead} f {ahead} d {ahead} k {before} k {old} d {} k",
+            ahead + 2
+        );
+        gaps.batch(session, &messages);
+        gaps.batch(session, "");
+        gaps.batch(session, &format!("{} d {} d", ahead + 9, ahead + 20));
+        gaps.ask(format!("recv {index} {} 0 {} d", id + 1, ahead + 30));
+        gaps.skips();
+        next = ahead + 21;
+    }
+    for (step, len) in [(2, MAX_BATCH), (9, MAX_BATCH), (2, MAX_BATCH + 1)] {
+        let counters = (1..=len).map(|at| next + step * at);
+        let mut messages: Vec<String> = counters.map(|counter| format!("{counter} d")).collect();
+        gaps.batch(session, &messages.join(" "));
+        messages.reverse();
+        gaps.batch(session, &messages.join(" "));
+        next += step * len + 1;
+    }
+    gaps.batch(session, "0 d");
     gaps
 }

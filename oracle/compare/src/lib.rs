@@ -19,6 +19,7 @@ mod plots;
 mod profiles;
 mod programs;
 mod random;
+mod skip_moves;
 mod tally;
 mod times;
 

@@ -7,6 +7,7 @@ use crate::insertion::Insertion;
 use crate::log_moves::LogMoves;
 use crate::profiles::{self, Profile};
 use crate::random::Random;
+use crate::skip_moves::SkipMoves;
 
 /// The lines of a script, each without its newline.
 pub struct Script {
@@ -46,6 +47,7 @@ pub(crate) struct Maker {
     peers: u32,
     pub(crate) datagrams: Datagrams,
     pub(crate) log: LogMoves,
+    pub(crate) skips: SkipMoves,
     /// The extra wakings, where a pair of scripts is made.
     pub(crate) insertion: Option<Insertion>,
 }
@@ -65,6 +67,7 @@ impl Maker {
             peers,
             datagrams: Datagrams::new(seed),
             log: LogMoves::new(seed),
+            skips: SkipMoves::new(seed),
             insertion: None,
         }
     }
@@ -93,11 +96,12 @@ impl Maker {
         }
     }
 
-    /// Ends with all events, the deadline and the missing reports.
+    /// Ends with all events, the deadline, the missing reports and the skips.
     pub(crate) fn end(&mut self) {
         self.drain();
         self.ask("next");
         self.all_missing();
+        self.ask_alone("skips");
     }
 
     /// Whether the script is as long as it should be, its datagrams and the log's lines not counted.
@@ -105,16 +109,25 @@ impl Maker {
         self.lines.len() - self.datagrams.lines - self.log.lines >= self.length
     }
 
-    /// Adds a line, now and then a datagram or lines of the log behind it, and gives the oracle's answer to the line, if it is good.
+    /// Adds a line, now and then a datagram, lines of the log or skips behind it, and gives the oracle's answer to the line, if it is good.
     pub(crate) fn ask(&mut self, line: impl Into<Vec<u8>>) -> Option<Answer> {
-        if let Some(insertion) = self.insertion.take() {
-            return self.ask_both(insertion, &line.into());
-        }
-        let answer = self.ask_driver(line);
+        let line = line.into();
+        let answer = self.ask_alone(line.clone());
 
-        self.datagrams_now_and_then();
-        self.log_now_and_then();
+        if self.insertion.is_none() {
+            self.datagrams_now_and_then();
+            self.log_now_and_then();
+        }
+        self.skips_now_and_then(&line);
         answer
+    }
+
+    /// Adds a line with nothing but the extra wakings of a pair beside it.
+    pub(crate) fn ask_alone(&mut self, line: impl Into<Vec<u8>>) -> Option<Answer> {
+        match self.insertion.take() {
+            Some(insertion) => self.ask_both(insertion, &line.into()),
+            None => self.ask_driver(line),
+        }
     }
 
     /// Adds a line as it is.

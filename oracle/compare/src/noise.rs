@@ -4,7 +4,7 @@ use crate::maker::Maker;
 use crate::random::Random;
 
 /// Lines that stand for themselves.
-const ODD: [&str; 40] = [
+const ODD: [&str; 43] = [
     "",
     " ",
     "\t",
@@ -44,6 +44,9 @@ const ODD: [&str; 40] = [
     "event 0",
     "next 0",
     "missing 4294967296",
+    "skips 0",
+    "skips -",
+    "skip",
     "split 1 0 2",
 ];
 
@@ -71,7 +74,7 @@ impl Maker {
         let time = self.time();
         let small = self.random.below(4);
 
-        match self.random.below(10) {
+        match self.random.below(11) {
             0 => format!("init {time}"),
             1 => format!("send {small} {time}"),
             2 => format!("wake {small} {time}"),
@@ -81,6 +84,7 @@ impl Maker {
             6 => format!("missing {small}"),
             7 => format!("look {small} {small} {time}"),
             8 => format!("cookie {small} 0 {time}"),
+            9 => "skips".to_string(),
             _ => format!("split {small} 0 9 {small}"),
         }
     }

@@ -3,7 +3,7 @@
 use std::collections::BTreeMap;
 use std::fmt;
 
-/// Counts of call words, refusal numbers, events, verdicts, of the types read and the headers written, and of the log's callouts and records.
+/// Counts of call words, refusal numbers, events, verdicts, skips, of the types read and the headers written, and of the log's callouts and records.
 #[derive(Default)]
 pub struct Tally {
     calls: u64,
@@ -11,6 +11,7 @@ pub struct Tally {
     refusals: BTreeMap<u64, u64>,
     events: BTreeMap<String, u64>,
     verdicts: BTreeMap<u64, u64>,
+    skips: BTreeMap<&'static str, u64>,
     datagrams: BTreeMap<String, u64>,
     log: BTreeMap<String, u64>,
 }
@@ -35,6 +36,11 @@ impl Tally {
             (Some("ok"), "recv") => {
                 for verdict in parts.filter_map(|verdict| verdict.parse().ok()) {
                     *self.verdicts.entry(verdict).or_default() += 1;
+                }
+            }
+            (Some("ok"), "skips") => {
+                for word in parts {
+                    *self.skips.entry(skip_kind(word)).or_default() += 1;
                 }
             }
             (Some("ok"), "datagram") => {
@@ -72,6 +78,16 @@ impl Tally {
     }
 }
 
+/// How far a message skipped, in a word, or that there is no batch yet.
+fn skip_kind(word: &str) -> &'static str {
+    match word.parse() {
+        Ok(0) => "0",
+        Ok(..=8_192) => "up to 8192",
+        Ok(8_193u64..) => "above 8192",
+        Err(_) => "none",
+    }
+}
+
 /// The name of a line's call, or a word for a line that cannot be read.
 fn word_of(line: &[u8]) -> String {
     if oracle::read(line).is_none() {
@@ -91,6 +107,7 @@ impl fmt::Display for Tally {
         writeln!(f, "refusals:  {}", list(&self.refusals))?;
         writeln!(f, "events:    {}", list(&self.events))?;
         writeln!(f, "verdicts:  {}", list(&self.verdicts))?;
+        writeln!(f, "skips:     {}", list(&self.skips))?;
         writeln!(f, "datagrams: {}", list(&self.datagrams))?;
         write!(f, "log:       {}", list(&self.log))
     }

@@ -2,7 +2,7 @@
 
 use std::collections::BTreeSet;
 
-use compare::{Pair, judge, make_pair, make_script};
+use compare::{Pair, Step, judge, make_pair, make_script};
 use oracle::{Call, Driver};
 
 /// The pairs of the first seeds.
@@ -49,8 +49,20 @@ fn pairs_reach_every_call_and_refusal() {
         }
     }
 
-    assert_eq!(words.len(), 12, "{words:?}");
+    assert_eq!(words.len(), 13, "{words:?}");
     assert_eq!(refusals, (1..=13).collect());
+}
+
+#[test]
+fn pairs_wake_between_a_batch_and_its_skips() {
+    let is_batch = |step: &Step| matches!(step.call, Call::Recv { .. }) && !step.extra;
+    let is_skips = |step: &Step| step.call == Call::Skips && !step.extra;
+
+    let woken = pairs(None).filter(|pair| {
+        let mut threes = pair.steps.windows(3);
+        threes.any(|three| is_batch(&three[0]) && three[1].extra && is_skips(&three[2]))
+    });
+    assert!(woken.count() > 10);
 }
 
 #[test]

@@ -1,5 +1,5 @@
-//! Makes sure that the scripts reach every call, every refusal, every event, every type of datagram, the edges of a young window and
-//! every refusal of the log.
+//! Makes sure that the scripts reach every call, every refusal, every event, every type of datagram, the edges of a young window,
+//! skips of every kind and every refusal of the log.
 
 use std::collections::BTreeSet;
 
@@ -59,7 +59,7 @@ fn scripts_reach_everything() {
         }
     }
 
-    assert_eq!(met.calls.len(), 22, "{:?}", met.calls);
+    assert_eq!(met.calls.len(), 23, "{:?}", met.calls);
     assert_eq!(
         met.refusals,
         (1..=19).filter(|number| *number != 14).collect()
@@ -209,6 +209,137 @@ fn scripts_ask_at_the_edges_of_a_young_window() {
     for next in [0, 1, 63, 64, 65, 127, 128, 129, 8_191, 8_192, 8_193] {
         assert!(counters.contains(&next), "{next}");
     }
+}
+
+/// What the skips of scripts have met.
+#[derive(Default)]
+struct SkipsMet {
+    kinds: BTreeSet<&'static str>,
+    /// The verdicts other than 0 of batches that skip some counters.
+    beside_a_jump: BTreeSet<u8>,
+    /// What the batches before were turned down by.
+    after_refused: BTreeSet<u8>,
+}
+
+impl SkipsMet {
+    /// Notes what a script's skips met.
+    fn note(&mut self, lines: &[Vec<u8>]) {
+        let mut driver = Driver::new();
+        let mut verdicts = Vec::new();
+        let mut before = (None, Ok(Answer::None));
+
+        for line in lines {
+            let call = oracle::read(line);
+            let answer = driver.answer(line);
+            if let Ok(Answer::Verdicts(good)) = &answer {
+                verdicts = good.clone();
+            }
+            if call == Some(Call::Skips) {
+                self.note_skips(&answer, &verdicts, &before);
+            }
+            before = (call, answer);
+        }
+    }
+
+    /// Notes the answer to a `skips`, given the verdicts of the last good batch and the line before it.
+    fn note_skips(
+        &mut self,
+        answer: &Result<Answer, u8>,
+        verdicts: &[u8],
+        before: &(Option<Call>, Result<Answer, u8>),
+    ) {
+        let Ok(Answer::Skips(skips)) = answer else {
+            let none = *answer == Ok(Answer::None);
+            self.kinds.insert(if none { "none" } else { "no tunnel" });
+            return;
+        };
+        let kinds = [
+            ("no message", skips.is_empty()),
+            ("0", skips.contains(&0)),
+            ("1 to 8,192", skips.iter().any(|n| (1..=8_192).contains(n))),
+            ("above 8,192", skips.iter().any(|n| *n > 8_192)),
+            ("above 2^63", skips.iter().any(|n| *n > 1 << 63)),
+            ("two jumps", skips.iter().filter(|n| **n > 0).count() > 1),
+            ("a full batch", skips.len() == 1_024),
+        ];
+        let met = kinds.into_iter().filter(|(_, is_met)| *is_met);
+        self.kinds.extend(met.map(|(kind, _)| kind));
+
+        if skips.iter().any(|skipped| *skipped > 0) {
+            let others = verdicts.iter().filter(|verdict| **verdict != 0);
+            self.beside_a_jump.extend(others);
+        }
+        match before {
+            (Some(Call::Recv { .. }), Err(number)) => drop(self.after_refused.insert(*number)),
+            (Some(Call::Skips), _) => drop(self.kinds.insert("twice")),
+            (None, _) => drop(self.kinds.insert("after an unreadable line")),
+            _ => {}
+        }
+    }
+}
+
+#[test]
+fn scripts_reach_skips_of_every_kind() {
+    let mut met = SkipsMet::default();
+
+    for seed in 0..300 {
+        met.note(&make_script(seed, 150).lines);
+    }
+
+    let kinds = [
+        "no tunnel",
+        "none",
+        "no message",
+        "0",
+        "1 to 8,192",
+        "above 8,192",
+        "above 2^63",
+        "two jumps",
+        "a full batch",
+        "twice",
+        "after an unreadable line",
+    ];
+    assert_eq!(met.kinds, kinds.into());
+    assert_eq!(met.beside_a_jump, BTreeSet::from([7, 9, 10]));
+    assert_eq!(met.after_refused, BTreeSet::from([1, 2, 11, 12, 13]));
+}
+
+#[test]
+fn every_manner_asks_for_skips_of_jumps() {
+    for manner in 0..10 {
+        let mut met = SkipsMet::default();
+        for seed in 0..30 {
+            met.note(&make_script(10 * seed + manner, 150).lines);
+        }
+
+        for kind in ["none", "0", "1 to 8,192"] {
+            assert!(met.kinds.contains(kind), "{manner}: {kind}");
+        }
+        assert!(!met.after_refused.is_empty(), "{manner}");
+    }
+}
+
+#[test]
+fn gap_scripts_reach_skips_of_jumps_and_of_what_is_turned_down() {
+    let mut met = SkipsMet::default();
+
+    for (_, script) in gap_scripts() {
+        met.note(&script.lines);
+    }
+
+    let kinds = [
+        "none",
+        "no message",
+        "0",
+        "1 to 8,192",
+        "above 8,192",
+        "above 2^63",
+        "two jumps",
+        "a full batch",
+    ];
+    assert_eq!(met.kinds, kinds.into());
+    assert_eq!(met.beside_a_jump, BTreeSet::from([7, 9, 10]));
+    assert_eq!(met.after_refused, BTreeSet::from([2, 11, 12]));
 }
 
 #[test]

@@ -35,8 +35,9 @@ fn answer(window: &mut Window, line: &str) -> Option<String> {
         }
         ["look", counter] => Some(window.look(counter.parse().ok()?).to_string()),
         ["commit", counter] => {
-            let verdict = window.commit(counter.parse().ok()?);
-            Some(format!("{verdict} {} {}", window.next(), window.ones()))
+            let (verdict, skipped) = window.commit(counter.parse().ok()?);
+            let (next, ones) = (window.next(), window.ones());
+            Some(format!("{verdict} {next} {ones} {skipped}"))
         }
         _ => None,
     }

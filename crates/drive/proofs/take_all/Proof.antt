@@ -5,10 +5,10 @@ use Rattle.drive.proofs.take_all.Statement.{statement}
 use Rattle.drive.proofs.take_all.Tie as tie
 
 abbrev Inv-loop : tie.InvT-loop
-Inv-loop progress₀ input₀ line₀ bytes₀ store₀ log₀ out₀ turns₀ progress input line bytes store log out turns = length input ≡ length input₀
+Inv-loop progress₀ input₀ line₀ bytes₀ store₀ list₀ log₀ out₀ turns₀ progress input line bytes store list log out turns = length input ≡ length input₀
 
 abbrev μ-loop : tie.MeasureT-loop
-μ-loop progress₀ input₀ line₀ bytes₀ store₀ log₀ out₀ turns₀ progress input line bytes store log out turns = turns
+μ-loop progress₀ input₀ line₀ bytes₀ store₀ list₀ log₀ out₀ turns₀ progress input line bytes store list log out turns = turns
 
 loop-holds : tie.Need-loop-holds Inv-loop μ-loop
 loop-holds c = search needs
@@ -20,7 +20,10 @@ take-input-requires : tie.Need-take-input-requires Inv-loop μ-loop
 take-input-requires c κs = search needs
 
 same-length : tie.Need-same-length Inv-loop μ-loop
-same-length c = search needs
+same-length c =
+    let came = c .before .before .before .before .before .before .before .before .before .before .before .before .before in
+    let begun = came .before .before .before in
+    search needs
 
 returns : tie.Need-returns Inv-loop μ-loop
 returns c = search needs
@@ -32,7 +35,10 @@ loop-less : tie.Need-loop-less Inv-loop μ-loop
 loop-less c = search needs
 
 loop-again : tie.Need-loop-again Inv-loop μ-loop
-loop-again c = search needs
+loop-again c =
+    let came = c .before .before .before .before .before .before .before .before .before .before .before .before .before in
+    let begun = came .before .before .before in
+    search needs
 
 same-length-2 : tie.Need-same-length-2 Inv-loop μ-loop
 same-length-2 c = search needs

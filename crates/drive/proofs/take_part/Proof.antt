@@ -5,10 +5,10 @@ use Rattle.drive.proofs.take_part.Statement.{statement}
 use Rattle.drive.proofs.take_part.Tie as tie
 
 abbrev Inv-loop : tie.InvT-loop
-Inv-loop progress₀ input line₀ bytes₀ store₀ log₀ out₀ at₀ progress line bytes store log out at = at ≤ length input
+Inv-loop progress₀ input line₀ bytes₀ store₀ list₀ log₀ out₀ at₀ progress line bytes store list log out at = at ≤ length input
 
 abbrev μ-loop : tie.MeasureT-loop
-μ-loop progress₀ input line₀ bytes₀ store₀ log₀ out₀ at₀ progress line bytes store log out at = length input - at
+μ-loop progress₀ input line₀ bytes₀ store₀ list₀ log₀ out₀ at₀ progress line bytes store list log out at = length input - at
 
 loop-holds : tie.Need-loop-holds Inv-loop μ-loop
 loop-holds c = search needs
@@ -38,7 +38,9 @@ end-line-requires : tie.Need-end-line-requires Inv-loop μ-loop
 end-line-requires c κs = search needs
 
 loop-less : tie.Need-loop-less Inv-loop μ-loop
-loop-less c = search needs
+loop-less c =
+    let ended = c .before .before .before .before .before .before .before .before .before .before .before in
+    search (ended .newline .ensures, ended .before .loop-test .taken, needs)
 
 loop-again : tie.Need-loop-again Inv-loop μ-loop
 loop-again c = search needs

@@ -6,11 +6,11 @@ use Rattle.bench.proofs.turns.receives.Statement.{statement}
 use Rattle.bench.proofs.turns.receives.Tie as tie
 
 abbrev Inv-loop : tie.InvT-loop
-Inv-loop tunnel₀ store₀ counters kinds verdicts₀ turns now₀ start₀ i₀ tunnel store verdicts now start i =
-    (i ≤ turns) × (start ≤ length counters) × (length store ≡ length store₀) × (length verdicts ≡ length verdicts₀)
+Inv-loop tunnel₀ store₀ counters kinds verdicts₀ skips₀ turns now₀ start₀ i₀ tunnel store verdicts skips now start i =
+    (i ≤ turns) × (start ≤ length counters) × (length store ≡ length store₀) × (length verdicts ≡ length verdicts₀) × (length skips ≡ length skips₀)
 
 abbrev μ-loop : tie.MeasureT-loop
-μ-loop tunnel₀ store₀ counters kinds verdicts₀ turns now₀ start₀ i₀ tunnel store verdicts now start i =
+μ-loop tunnel₀ store₀ counters kinds verdicts₀ skips₀ turns now₀ start₀ i₀ tunnel store verdicts skips now start i =
     turns - i
 
 loop-holds : tie.Need-loop-holds Inv-loop μ-loop
@@ -24,6 +24,9 @@ same-length c = search needs
 
 same-length-2 : tie.Need-same-length-2 Inv-loop μ-loop
 same-length-2 c = search needs
+
+same-length-3 : tie.Need-same-length-3 Inv-loop μ-loop
+same-length-3 c = search needs
 
 returns : tie.Need-returns Inv-loop μ-loop
 returns c = search needs
@@ -50,7 +53,9 @@ wrapping-add-u64-requires : tie.Need-wrapping-add-u64-requires Inv-loop μ-loop
 wrapping-add-u64-requires c κs = search needs
 
 add-i : tie.Need-add-i Inv-loop μ-loop
-add-i c = search needs
+add-i c =
+    let begun = c .before .before .before .before .before .before .before .before .before .before .before .before .before .before in
+    search needs
 
 loop-less : tie.Need-loop-less Inv-loop μ-loop
 loop-less c = search needs
@@ -58,11 +63,14 @@ loop-less c = search needs
 loop-again : tie.Need-loop-again Inv-loop μ-loop
 loop-again c = search needs
 
-same-length-3 : tie.Need-same-length-3 Inv-loop μ-loop
-same-length-3 c = search needs
-
 same-length-4 : tie.Need-same-length-4 Inv-loop μ-loop
 same-length-4 c = search needs
+
+same-length-5 : tie.Need-same-length-5 Inv-loop μ-loop
+same-length-5 c = search needs
+
+same-length-6 : tie.Need-same-length-6 Inv-loop μ-loop
+same-length-6 c = search needs
 
 returns-2 : tie.Need-returns-2 Inv-loop μ-loop
 returns-2 c = search needs
@@ -77,6 +85,7 @@ receives-spec =
     sub-if1
     same-length
     same-length-2
+    same-length-3
     returns
     add-end
     mul-receive
@@ -88,6 +97,7 @@ receives-spec =
     add-i
     loop-less
     loop-again
-    same-length-3
     same-length-4
+    same-length-5
+    same-length-6
     returns-2)

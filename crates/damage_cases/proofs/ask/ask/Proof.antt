@@ -27,6 +27,9 @@ same-length c = search needs
 same-length-2 : tie.Need-same-length-2
 same-length-2 c = search needs
 
+same-length-3 : tie.Need-same-length-3
+same-length-3 c = search needs
+
 returns-2 : tie.Need-returns-2
 returns-2 c = tt
 
@@ -39,8 +42,8 @@ slice-aggregate-ask-store c = search (part-length, needs)
 ask-store-requires : tie.Need-ask-store-requires
 ask-store-requires c κs = tt
 
-same-length-3 : tie.Need-same-length-3
-same-length-3 c = search needs
+same-length-4 : tie.Need-same-length-4
+same-length-4 c = search needs
 
 returns-3 : tie.Need-returns-3
 returns-3 c = tt
@@ -57,9 +60,10 @@ ask-spec =
     ask-batch-requires
     same-length
     same-length-2
+    same-length-3
     returns-2
     slice-relend-prefix-ask-store
     slice-aggregate-ask-store
     ask-store-requires
-    same-length-3
+    same-length-4
     returns-3)

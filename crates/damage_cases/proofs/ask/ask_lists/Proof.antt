@@ -12,6 +12,9 @@ at-most-requires-2 c κs = tt
 at-most-requires-3 : tie.Need-at-most-requires-3
 at-most-requires-3 c κs = tt
 
+at-most-requires-4 : tie.Need-at-most-requires-4
+at-most-requires-4 c κs = tt
+
 slice-aggregate-receive : tie.Need-slice-aggregate-receive
 slice-aggregate-receive c = search (part-length, needs)
 
@@ -24,6 +27,12 @@ slice-relend-prefix-receive c = search needs
 slice-aggregate-receive-3 : tie.Need-slice-aggregate-receive-3
 slice-aggregate-receive-3 c = search (part-length, needs)
 
+slice-relend-prefix-receive-2 : tie.Need-slice-relend-prefix-receive-2
+slice-relend-prefix-receive-2 c = search needs
+
+slice-aggregate-receive-4 : tie.Need-slice-aggregate-receive-4
+slice-aggregate-receive-4 c = search (part-length, needs)
+
 receive-requires : tie.Need-receive-requires
 receive-requires c κs = tt
 
@@ -32,6 +41,9 @@ same-length c = search needs
 
 same-length-2 : tie.Need-same-length-2
 same-length-2 c = search needs
+
+same-length-3 : tie.Need-same-length-3
+same-length-3 c = search needs
 
 returns : tie.Need-returns
 returns c = tt
@@ -43,11 +55,15 @@ ask-lists-spec =
     at-most-requires
     at-most-requires-2
     at-most-requires-3
+    at-most-requires-4
     slice-aggregate-receive
     slice-aggregate-receive-2
     slice-relend-prefix-receive
     slice-aggregate-receive-3
+    slice-relend-prefix-receive-2
+    slice-aggregate-receive-4
     receive-requires
     same-length
     same-length-2
+    same-length-3
     returns)

@@ -6,10 +6,10 @@ use Rattle.sessions.proofs.batch.finish_all.Statement.{statement}
 use Rattle.sessions.proofs.batch.finish_all.Tie as tie
 
 abbrev Inv-loop : tie.InvT-loop
-Inv-loop words₀ counters kinds verdicts₀ progress₀ i₀ words verdicts progress i = Going words₀ progress₀ counters kinds words verdicts progress i
+Inv-loop words₀ counters kinds verdicts₀ skips₀ progress₀ i₀ words verdicts skips progress i = Going words₀ progress₀ counters kinds words verdicts skips progress i
 
 abbrev μ-loop : tie.MeasureT-loop
-μ-loop words₀ counters kinds verdicts₀ progress₀ i₀ words verdicts progress i = length counters - i
+μ-loop words₀ counters kinds verdicts₀ skips₀ progress₀ i₀ words verdicts skips progress i = length counters - i
 
 loop-holds : tie.Need-loop-holds Inv-loop μ-loop
 loop-holds c = search (batch-begins, needs)
@@ -32,6 +32,9 @@ same-length c = search needs
 same-length-2 : tie.Need-same-length-2 Inv-loop μ-loop
 same-length-2 c = search needs
 
+same-length-3 : tie.Need-same-length-3 Inv-loop μ-loop
+same-length-3 c = search needs
+
 returns : tie.Need-returns Inv-loop μ-loop
 returns c = search (batch-ends, needs)
 
@@ -48,4 +51,5 @@ finish-all-spec =
     loop-again
     same-length
     same-length-2
+    same-length-3
     returns)

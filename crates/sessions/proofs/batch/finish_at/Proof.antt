@@ -20,11 +20,20 @@ finish-receive-packet-data-requires c κs = search needs
 slice-write-verdicts : tie.Need-slice-write-verdicts
 slice-write-verdicts c = search needs
 
+mul-skips : tie.Need-mul-skips
+mul-skips c = search needs
+
+slice-write-skips : tie.Need-slice-write-skips
+slice-write-skips c = search needs
+
 same-length : tie.Need-same-length
 same-length c = search needs
 
 same-length-2 : tie.Need-same-length-2
 same-length-2 c = search needs
+
+same-length-3 : tie.Need-same-length-3
+same-length-3 c = search needs
 
 returns : tie.Need-returns
 returns c = search (message-done, needs)
@@ -38,6 +47,9 @@ finish-at-spec =
     shared-slice-read-finish-receive-packet-data-2
     finish-receive-packet-data-requires
     slice-write-verdicts
+    mul-skips
+    slice-write-skips
     same-length
     same-length-2
+    same-length-3
     returns)

@@ -6,11 +6,11 @@ use Rattle.bench.proofs.day.Day.bursts.Statement.{statement}
 use Rattle.bench.proofs.day.Day.bursts.Tie as tie
 
 abbrev Inv-loop : tie.InvT-loop
-Inv-loop self₀ store₀ counters kinds verdicts₀ start₀ self store verdicts start =
-    (start ≤ 832) × (length store ≡ length store₀) × (length verdicts ≡ length verdicts₀)
+Inv-loop self₀ store₀ counters kinds verdicts₀ skips₀ start₀ self store verdicts skips start =
+    (start ≤ 832) × (length store ≡ length store₀) × (length verdicts ≡ length verdicts₀) × (length skips ≡ length skips₀)
 
 abbrev μ-loop : tie.MeasureT-loop
-μ-loop self₀ store₀ counters kinds verdicts₀ start₀ self store verdicts start =
+μ-loop self₀ store₀ counters kinds verdicts₀ skips₀ start₀ self store verdicts skips start =
     832 - start
 
 loop-holds : tie.Need-loop-holds Inv-loop μ-loop
@@ -34,6 +34,9 @@ same-length c = search needs
 same-length-2 : tie.Need-same-length-2 Inv-loop μ-loop
 same-length-2 c = search needs
 
+same-length-3 : tie.Need-same-length-3 Inv-loop μ-loop
+same-length-3 c = search needs
+
 returns : tie.Need-returns Inv-loop μ-loop
 returns c = search needs
 
@@ -50,4 +53,5 @@ bursts-spec =
     loop-again
     same-length
     same-length-2
+    same-length-3
     returns)

@@ -27,8 +27,14 @@ same-length c = search needs
 same-length-2 : tie.Need-same-length-2
 same-length-2 c = search needs
 
+same-length-3 : tie.Need-same-length-3
+same-length-3 c = search needs
+
 returns-2 : tie.Need-returns-2
-returns-2 c = search (way-rejected, needs)
+returns-2 c =
+    let received = c .before .before .before .before .before .before .before .before .before .before in
+    let alive = received .before .before .before .before in
+    search (way-rejected, needs, received .receive .ensures, alive .if1 .left, alive .before .is-expired .ensures)
 
 enum-known-received-2 : tie.Need-enum-known-received-2
 enum-known-received-2 c = search needs
@@ -36,15 +42,20 @@ enum-known-received-2 c = search needs
 accept-requires : tie.Need-accept-requires
 accept-requires c κs = search needs
 
-same-length-3 : tie.Need-same-length-3
-same-length-3 c = search needs
-
 same-length-4 : tie.Need-same-length-4
 same-length-4 c = search needs
 
+same-length-5 : tie.Need-same-length-5
+same-length-5 c = search needs
+
+same-length-6 : tie.Need-same-length-6
+same-length-6 c = search needs
+
 returns-3 : tie.Need-returns-3
 returns-3 c =
-    search (way-judged, needs, c .before .before .before .before .before .before .before .before .receive .ensures, c .before .before .before .before .before .before .before .before .before .before .before .if1 .left, c .before .before .before .before .before .before .before .before .before .before .before .before .is-expired .ensures)
+    let received = c .before .before .before .before .before .before .before .before .before .before in
+    let alive = received .before .before .before .before in
+    search (way-judged, needs, received .receive .ensures, alive .if1 .left, alive .before .is-expired .ensures)
 
 pub commit-decapsulate-spec : {M : Type 1} → statement M
 commit-decapsulate-spec =
@@ -58,9 +69,11 @@ commit-decapsulate-spec =
     refuse-requires-2
     same-length
     same-length-2
+    same-length-3
     returns-2
     enum-known-received-2
     accept-requires
-    same-length-3
     same-length-4
+    same-length-5
+    same-length-6
     returns-3)

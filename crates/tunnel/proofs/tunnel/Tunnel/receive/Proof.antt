@@ -22,6 +22,9 @@ same-length c = search needs
 same-length-2 : tie.Need-same-length-2
 same-length-2 c = search needs
 
+same-length-3 : tie.Need-same-length-3
+same-length-3 c = search needs
+
 returns : tie.Need-returns
 unfolding callReceive
 returns c = search (way-batch-refused, needs)
@@ -32,26 +35,45 @@ commit-decapsulate-requires c κs = search (open-ring, needs)
 settled-requires : tie.Need-settled-requires
 settled-requires c κs = search needs
 
-same-length-3 : tie.Need-same-length-3
-same-length-3 c = search needs
-
 same-length-4 : tie.Need-same-length-4
 same-length-4 c = search needs
 
+same-length-5 : tie.Need-same-length-5
+same-length-5 c = search needs
+
+same-length-6 : tie.Need-same-length-6
+same-length-6 c = search needs
+
 returns-2 : tie.Need-returns-2
 unfolding callReceive
-returns-2 c = search (way-batch-settled, needs)
+returns-2 c =
+    let committed = c .before .before .before .before .before .before .before in
+    let gated = committed .before .before .before .before in
+    search (
+      way-batch-settled,
+      committed .commit-decapsulate .ensures,
+      gated .if1 .left,
+      gated .before .gate .ensures,
+      gated .before .before .undamaged .ensures,
+      gated .before .before .before .bad-batch .ensures,
+      needs,
+    )
 
 pub receive-spec : {M : Type 1} → statement M
-receive-spec = tie.close (tie.spec bad-batch-requires
+receive-spec =
+    tie.close
+    (tie.spec
+    bad-batch-requires
     undamaged-requires
     gate-requires
     refused-requires
     same-length
     same-length-2
+    same-length-3
     returns
     commit-decapsulate-requires
     settled-requires
-    same-length-3
     same-length-4
+    same-length-5
+    same-length-6
     returns-2)
