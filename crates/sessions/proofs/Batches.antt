@@ -8,7 +8,7 @@ use native.Mathlib.Numerals.{add-one}
 use native.Mathlib.Omega.{arith}
 use lib.Dec.{ltb, eqb}
 use lib.ListN.{length, getD, set, take, drop, length-set, drop-of-length-le}
-use lib.Seq.{drop-cons, take-suc-set, take-all, append-snoc}
+use lib.Seq.{drop-cons, set-set, set-getD, getD-set-same, take-suc-set, take-all, append-snoc}
 use borrow.Author.Tests.{eq-eqb, ne-eqb}
 use borrow.Rule.Slice.PartMut.{putMid}
 use Rattle.base.specs.Choice.{choose}
@@ -111,19 +111,45 @@ module _ (words : List ℕ) (progress : Progress) (counter kind : ℕ) where
         → Finishes (record { verdict = 0; skipped = marked .skipped; progress = record { next = marked .next; accepted = true; «data» = progress .«data» } }) last
     taken-keepalive h k = taken (progress .«data») h (unfold choose in rw (ne-eqb kind 0 k))
 
--- the message at a place of the lists
-pub message-done : (words : List ℕ) (progress : Progress) (counters kinds verdicts skips : List ℕ) (i : ℕ) (last : List ℕ) (f : Finished)
-    → Leaves f (finishReceivePacketData words progress (getD counters i 0) (getD kinds i 0) .finished)
-    last (finishReceivePacketData words progress (getD counters i 0) (getD kinds i 0) .words)
-    → LeavesBatch (finishAt words progress counters kinds verdicts skips i)
-    (record { next = f .progress .next; accepted = f .progress .accepted; «data» = f .progress .«data» }) last (set verdicts i (f .verdict)) (set skips i (f .skipped))
-message-done words progress counters kinds verdicts skips i last f l =
-    record {
-      out = ap (λ (x : Finished). x .progress) (l .out);
-      words = l .words;
-      list = ap (λ (x : Finished). set verdicts i (x .verdict)) (l .out);
-      skip-list = ap (λ (x : Finished). set skips i (x .skipped)) (l .out);
-    }
+-- the message at a place of the lists, with 0 at the place of its skip before
+module _ (words : List ℕ) (progress : Progress) (counters kinds verdicts skips : List ℕ) (i : ℕ) (last : List ℕ) (f : Finished)
+    (l : Leaves f (finishReceivePacketData words progress (getD counters i 0) (getD kinds i 0) .finished)
+    last (finishReceivePacketData words progress (getD counters i 0) (getD kinds i 0) .words)) where
+  pub message-done : (left : List ℕ) → left ≡ set (set skips i 0) i (f .skipped)
+      → LeavesBatch (finishAt words progress counters kinds verdicts skips i)
+      (record { next = f .progress .next; accepted = f .progress .accepted; «data» = f .progress .«data» }) last (set verdicts i (f .verdict)) left
+  message-done left e =
+      record {
+        out = ap (λ (x : Finished). x .progress) (l .out);
+        words = l .words;
+        list = ap (λ (x : Finished). set verdicts i (x .verdict)) (l .out);
+        skip-list = e ∙ set-set skips i 0 (f .skipped) ∙ ap (λ (x : Finished). set skips i (x .skipped)) (l .out);
+      }
+
+-- a place that was set to 0 holds it
+pub zero-there : (counters skips : List ℕ) (i : ℕ) → i < length counters → length skips ≡ length counters
+    → (i < length (set skips i 0)) × (getD (set skips i 0) i 0 ≡ 0)
+zero-there counters skips i h e = (omega (arith, h, e, length-set skips i 0), getD-set-same skips i 0 0 (omega (arith, h, e)))
+
+-- a skip of 0 at a place that holds it
+pub none-put : (skips : List ℕ) (i skipped : ℕ) → getD skips i 0 ≡ 0 → skipped ≡ 0 → skips ≡ set skips i skipped
+none-put skips i skipped h z = sym (ap (set skips i) (z ∙ sym h) ∙ set-getD skips i 0)
+
+-- the session after a batch, with data and without
+or-true : (b : Bool) → (b || true) ≡ true
+or-true true = refl
+or-true false = refl
+
+or-false : (b : Bool) → (b || false) ≡ b
+or-false true = refl
+or-false false = refl
+
+module _ (s : Session) (next : ℕ) (is : Bool) where
+  pub with-data : is ≡ true → withNext (withReceivedData s true) next ≡ withNext (withReceivedData s (s .«received_data» || is)) next
+  with-data e = rw (e, or-true (s .«received_data»)) refl
+
+  pub without-data : is ≡ false → withNext s next ≡ withNext (withReceivedData s (s .«received_data» || is)) next
+  without-data e = rw (e, or-false (s .«received_data»)) refl
 
 -- what a batch comes to with verdicts and skips given before
 abbrev pub preceded : (verdicts skips : List ℕ) → Batched Progress → Batched Progress
@@ -205,19 +231,20 @@ module _ (s : Sessions) (store : List ℕ) (index id now : ℕ) (counters kinds 
       none-receives q = rw (eq-eqb (length store) 1024 l, ← e, p, ← g, q) (record { out = refl; words = refl; list = refl; skip-list = refl })
 
       -- the session's slot lent on to the loop
-      pub one-receives : (x : Session) (slot start end : ℕ) (progress : Progress) (last given passed : List ℕ)
+      pub one-receives : (x : Session) (slot start end : ℕ) (progress : Progress) (after : Session) (last given passed : List ℕ)
           → found ≡ Got x → slot ≡ slotOf (x .«receiving_index») → start ≡ 128 * slot → end ≡ start + 128
           → LeavesBatch (finishAll (take (end - start) (drop start store)) (record { next = x .next; accepted = false; «data» = false }) counters kinds) progress last given passed
           → length last ≡ length (take (end - start) (drop start store))
-          → Receives (Judged (withNext (withReceivedData x (x .«received_data» || progress .«data»)) (progress .next)) progress)
+          → after ≡ withNext (withReceivedData x (x .«received_data» || progress .«data»)) (progress .next)
+          → Receives (Judged after progress)
           (putMid start (end - start) store last) given passed
       unfolding receive caseFound choose
-      one-receives x slot start end progress last given passed q k b d f same =
+      one-receives x slot start end progress after last given passed q k b d f same m =
           let part : take (end - start) (drop start store) ≡ slotWords store slot = part-is store slot start end b d in
           let long-last : length last ≡ 128 = same ∙ ap length part ∙ slot-long store slot l (omega arith) in
           rw (eq-eqb (length store) 1024 l, ← e, p, ← g, q, ← k)
           (record {
-            out = rw (f .out, part);
+            out = rw (m, f .out, part);
             words = part-put store last slot start end long-last b d ∙ ap (putSlot store slot) (f .words ∙ rw part);
             list = f .list ∙ rw part;
             skip-list = f .skip-list ∙ rw part;

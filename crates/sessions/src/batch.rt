@@ -3,12 +3,13 @@ use crate::index::slot_of;
 use crate::session::Session;
 use crate::sessions::Found;
 use crate::sessions::Sessions;
-ghost use mathlib.Core.Bool.{false};
+ghost use mathlib.Core.Bool.{false, _||_};
 ghost use mathlib.Core.Path.{_≡_};
 ghost use Prim.Native.Nat.{_<_};
 ghost use lib.Dec.{ltb};
-ghost use lib.ListN.{length};
+ghost use lib.ListN.{length, getD, set};
 ghost use Rattle.base.specs.Choice.{choose};
+ghost use Rattle.sessions.specs.Session.{withReceivedData, withNext};
 ghost use Rattle.sessions.specs.Store.{Leaves};
 ghost use Rattle.sessions.specs.Batch.{LeavesBatch, known, fits, finishReceivePacketData, finishAt, finishAll, receivingSession, receive};
 
@@ -132,8 +133,20 @@ fn finish_receive_packet_data(
     }
 }
 
-// Commits the message at a place of the lists to a window's words, and puts its verdict and its skip at that place. The progress is handed back
-// field by field, without the padding between them.
+// Puts a message's skip at a place that holds 0. Most skip none and write nothing.
+fn put_skip(skips: &mut [u64], i: usize, skipped: u64)
+    requires { ⌜ (i < length (now skips)) × (getD (now skips) i 0 ≡ 0) ⌝ }
+    ensures { λ r. ⌜ now (skips .exit) ≡ set (now (skips .entry)) i skipped ⌝ }
+{
+    if skipped == 0 {
+        return;
+    }
+    skips[i] = skipped;
+}
+
+// Commits the message at a place of the lists to a window's words, and puts its verdict and its skip at that place. The skip is 0 at
+// first, so that it need not be kept through the commit of a message that skips none. The progress is handed back field by field,
+// without the padding between them.
 fn finish_at(
     words: &mut [u64],
     progress: Progress,
@@ -146,9 +159,10 @@ fn finish_at(
     requires { ⌜ (i < length (now counters)) × (length (now kinds) ≡ length (now counters)) × (length (now verdicts) ≡ length (now counters)) × (length (now skips) ≡ length (now counters)) ⌝ }
     ensures { λ r. ⌜ LeavesBatch (finishAt (now (words .entry)) progress (now (counters .entry)) (now (kinds .entry)) (now (verdicts .entry)) (now (skips .entry)) i) r (now (words .exit)) (now (verdicts .exit)) (now (skips .exit)) ⌝ }
 {
+    skips[i] = 0;
     let finished = finish_receive_packet_data(words, progress, counters[i], kinds[i]);
     verdicts[i] = finished.verdict;
-    skips[i] = finished.skipped;
+    put_skip(skips, i, finished.skipped);
     let after = finished.progress;
     Progress {
         next: after.next,
@@ -176,6 +190,20 @@ fn finish_all(
         i = i + 1;
     }
     progress
+}
+
+impl Session {
+    // The session after a batch: its window's next expected counter, and whether any data has been received.
+    fn after_batch(mut self, next: u64, data: bool) -> Session
+        ensures { λ r. ⌜ r ≡ withNext (withReceivedData self (self .«received_data» || «data»)) next ⌝ }
+    {
+        self.next = next;
+        if !data {
+            return self;
+        }
+        self.received_data = true;
+        self
+    }
 }
 
 impl Sessions {
@@ -235,11 +263,7 @@ impl Sessions {
             verdicts,
             skips,
         );
-        let after = Session {
-            received_data: session.received_data | progress.data,
-            next: progress.next,
-            ..session
-        };
+        let after = session.after_batch(progress.next, progress.data);
         Received::Judged(after, progress)
     }
 }

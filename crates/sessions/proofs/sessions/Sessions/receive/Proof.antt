@@ -66,6 +66,9 @@ finish-all-requires c κs =
     let tested = c .before .before .before .before .before .before .before .before in
     fits-long _ _ _ _ _ (tested .before .fits2 .ensures) (not-false _ (tested .if2 .left))
 
+after-batch-requires : tie.Need-after-batch-requires
+after-batch-requires c κs = search needs
+
 same-length-5 : tie.Need-same-length-5
 same-length-5 c = search needs
 
@@ -77,7 +80,7 @@ same-length-7 c = search needs
 
 returns-4 : tie.Need-returns-4
 returns-4 c =
-    let finished = c .before .before .before .before .before .before .before .before in
+    let finished = c .before .before .before .before .before .before .before in
     let slot = finished .before .before .before .before in
     let found = slot .before .before .before .before in
     let tested = found .before in
@@ -113,6 +116,7 @@ receive-spec =
     part-finish-all-start
     part-finish-all-end
     finish-all-requires
+    after-batch-requires
     same-length-5
     same-length-6
     same-length-7
