@@ -1,5 +1,6 @@
 //! Answers each call of a script with the original tunnel, and adds document 01's checks 1, 2
-//! and 13, the greatest time and document 02's missing report and skips; datagrams are read, headers written and a log kept beside it.
+//! and 13, the greatest time and document 02's missing report, skips and last heard times; datagrams are read, headers written and a log kept
+//! beside it.
 
 use std::fmt;
 use std::num::NonZeroUsize;
@@ -147,7 +148,8 @@ pub struct Driver {
     log: Log,
 }
 
-/// A tunnel, the greatest time it was given, the counters it was seen to commit and the skips of its last batch that was answered good.
+/// A tunnel, the greatest time it was given, the counters it was seen to commit and when, and the skips of its last batch that was answered
+/// good.
 struct Held {
     tunnel: Tunnel,
     base: Instant,
@@ -322,6 +324,7 @@ impl Held {
             Call::Event => Ok(self.event()),
             Call::Next => Ok(self.next()),
             Call::Missing { index } => self.missing(index),
+            Call::Heard { index } => self.heard(index),
             Call::Skips => Ok(self.skips()),
             Call::Split {
                 peer,
@@ -439,7 +442,7 @@ impl Held {
         Ok(Answer::Range(range.range()))
     }
 
-    /// Commits a batch, gives a verdict on each message and keeps what each one skipped.
+    /// Commits a batch, gives a verdict on each message and keeps what each one skipped, and the time where any was committed.
     fn recv(
         &mut self,
         index: u32,
@@ -465,6 +468,7 @@ impl Held {
         self.greatest = time;
         let skips = self.recount.note(session, &counters, &verdicts);
         self.skips = Some(skips);
+        self.recount.hear(session, &verdicts, time);
 
         Ok(Answer::Verdicts(verdicts))
     }
@@ -533,6 +537,23 @@ impl Held {
         let session = session.ok_or(NO_SESSION)?;
 
         Ok(Answer::Missing(self.recount.missing(session.id)))
+    }
+
+    /// When the session with exactly `index` was last heard: the time of the last batch that committed a message to it, before that the time
+    /// from which its age counts.
+    fn heard(&self, index: u32) -> Result<Answer, Number> {
+        let session = self.tunnel.sessions().view(Index::from_peer(index));
+        let session = session.ok_or(NO_SESSION)?;
+        let last_heard = self.last_heard(&session);
+
+        Ok(Answer::At(last_heard))
+    }
+
+    /// When a session was last heard.
+    fn last_heard(&self, session: &SessionView) -> u64 {
+        let committed = self.recount.last_heard(session.id);
+
+        committed.unwrap_or_else(|| self.time(session.established_at))
     }
 
     /// The skips of the last batch that was answered good, if there was one.
@@ -717,6 +738,7 @@ pub struct ViewSession {
     pub initiator: bool,
     pub next_sent: u64,
     pub next_received: u64,
+    pub last_heard: u64,
 }
 
 impl Held {
@@ -755,6 +777,7 @@ impl Held {
             peer: session.peer,
             id: session.id,
             established_at: self.time(session.established_at),
+            last_heard: self.last_heard(&session),
             initiator: session.initiator,
             next_sent: session.next_sent,
             next_received: session.next_received,
@@ -907,6 +930,81 @@ mod tests {
             held.skips(),
             Answer::Skips(vec![3, 0, 0, 0, 0, 19_995, 0, 0, 0, 8, LAST - 20_011, 0])
         );
+    }
+
+    /// The next counter and the set bits of the Rust's window of the session 257, which stay only where nothing is committed.
+    fn window(held: &Held) -> (u64, u32) {
+        let index = Index::from_peer(257);
+        let session = held.tunnel.sessions().view(index).expect("the session");
+        let ones = held.tunnel.sessions().ones(index).expect("the session");
+
+        (session.next_received, ones)
+    }
+
+    #[test]
+    fn a_session_is_heard_just_where_the_window_of_the_rust_changes() {
+        let mut held = tunnel();
+        held.hello(9, 0, 3).expect("a session");
+        let mut last_heard = 3;
+        let mut kept = 0;
+
+        for step in 0..4_000 {
+            let before = window(&held);
+            let mut messages = messages_around(before.0, step);
+            if step % 3 == 0 {
+                messages.retain(|(counter, opening)| {
+                    *opening == Opening::Failed || counter + 8_192 < before.0
+                });
+            }
+            held.recv(257, 0, step + 4, messages).expect("verdicts");
+            if window(&held) == before {
+                kept += 1;
+            } else {
+                last_heard = step + 4;
+            }
+            assert_eq!(held.heard(257), Ok(Answer::At(last_heard)));
+        }
+        assert!((1_000..3_000).contains(&kept), "{kept}");
+    }
+
+    #[test]
+    fn a_session_is_first_heard_when_its_handshake_message_came() {
+        let mut held = tunnel();
+        held.hello(9, 0, 5).expect("a session");
+        held.init(6).expect("an initiation");
+        held.resp(258, 8, 0, 7).expect("a session");
+        held.recv(257, 0, 8, vec![(0, Opening::Failed)])
+            .expect("a verdict");
+
+        assert_eq!(held.heard(257), Ok(Answer::At(5)));
+        assert_eq!(held.heard(258), Ok(Answer::At(7)));
+        assert_eq!(held.heard(259), Err(NO_SESSION));
+    }
+
+    #[test]
+    fn what_is_turned_down_and_what_is_no_batch_leaves_the_last_heard_time() {
+        let data = || vec![(9, Opening::Data)];
+        let mut held = tunnel();
+        held.hello(9, 0, 1).expect("a session");
+        held.recv(257, 0, 2, vec![(0, Opening::Keepalive)])
+            .expect("a verdict");
+
+        let refused = [
+            held.recv(257, 0, TIME_LIMIT + 1, data()),
+            held.recv(257, 0, 3, vec![(9, Opening::Data); MAX_BATCH + 1]),
+            held.recv(257, 0, 1, data()),
+            held.recv(257, 1, 3, data()),
+            held.recv(265, 0, 3, data()),
+        ];
+        assert_eq!(refused, [1, 2, 13, 12, 12].map(Err));
+        held.recv(257, 0, 3, Vec::new()).expect("no verdict");
+        held.send(1, 4).expect("a range");
+        held.look(257, 9, 5).expect("a look");
+        held.wake(0, 6).expect("a waking");
+        held.hello(8, 0, 7).expect("another session");
+        held.recv(258, 1, 8, data()).expect("a verdict");
+
+        assert_eq!(held.heard(257), Ok(Answer::At(2)));
     }
 
     #[test]

@@ -1,14 +1,16 @@
-//! The missing report and the skips, recounted from document 02's notes 2 and 5 with the counters that were seen committed.
+//! The missing report, the skips and the time a session was last heard, recounted from document 02's notes 2, 5 and 6 with the counters that
+//! were seen committed.
 
 use std::collections::{BTreeMap, BTreeSet};
 
 /// The most counters that a window has.
 const WINDOW: u64 = 8_192;
 
-/// The committed counters of each session of a tunnel, by the session's id.
+/// The committed counters of each session of a tunnel and the time of the last batch that committed any, by the session's id.
 #[derive(Default)]
 pub(crate) struct Recount {
     committed: BTreeMap<u64, BTreeSet<u64>>,
+    heard: BTreeMap<u64, u64>,
 }
 
 impl Recount {
@@ -27,6 +29,18 @@ impl Recount {
         }
 
         skips
+    }
+
+    /// Notes the time of a batch in which any message got the verdict 0.
+    pub(crate) fn hear(&mut self, session: u64, verdicts: &[u8], time: u64) {
+        if verdicts.contains(&0) {
+            self.heard.insert(session, time);
+        }
+    }
+
+    /// The time of the last batch that committed a message to a session, if there was one.
+    pub(crate) fn last_heard(&self, session: u64) -> Option<u64> {
+        self.heard.get(&session).copied()
     }
 
     /// The number of counters of a session's window that were not committed.

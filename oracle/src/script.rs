@@ -75,6 +75,9 @@ pub enum Call {
     Missing {
         index: u32,
     },
+    Heard {
+        index: u32,
+    },
     Skips,
     Split {
         peer: u32,
@@ -177,6 +180,9 @@ fn read_call(words: &mut Words<'_>) -> Option<Call> {
         b"event" => Call::Event,
         b"next" => Call::Next,
         b"missing" => Call::Missing {
+            index: words.number_32()?,
+        },
+        b"heard" => Call::Heard {
             index: words.number_32()?,
         },
         b"skips" => Call::Skips,

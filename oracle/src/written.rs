@@ -36,6 +36,7 @@ impl Call {
             Call::Event
             | Call::Next
             | Call::Missing { .. }
+            | Call::Heard { .. }
             | Call::Skips
             | Call::Split { .. }
             | Call::Datagram { .. }
@@ -97,6 +98,7 @@ impl fmt::Display for Call {
             Call::Event => write!(f, "event"),
             Call::Next => write!(f, "next"),
             Call::Missing { index } => write!(f, "missing {index}"),
+            Call::Heard { index } => write!(f, "heard {index}"),
             Call::Skips => write!(f, "skips"),
             Call::Split {
                 peer,

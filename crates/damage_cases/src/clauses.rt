@@ -4,10 +4,13 @@ use crate::damage::no_damage;
 use crate::every::ALL;
 use crate::every::OF_SOUND;
 use crate::every::every;
+use crate::fields::EMPTY_HEARD;
 use crate::fields::EMPTY_SLOTS;
 use crate::fields::FIELDS;
 use crate::fields::FILLED_SLOTS;
 use crate::fields::GREATEST_TIME;
+use crate::fields::HEARD_EARLY;
+use crate::fields::HEARD_LATE;
 use crate::fields::KEEPALIVE;
 use crate::fields::PRESENT_TIMES;
 use crate::fields::QUEUED;
@@ -93,6 +96,8 @@ fn damaged_groups() {
     past_edge(KEEPALIVE, RING, 14).print(b"14 keepalive");
     past_edge(RING, FILLED_SLOTS, 14).print(b"14 ring head and length");
     past_edge(FILLED_SLOTS, EMPTY_SLOTS, 14).print(b"14 filled slots");
+    past_edge(HEARD_EARLY, HEARD_LATE, 14).print(b"14 last heard before the session's time");
+    past_edge(HEARD_LATE, EMPTY_HEARD, 14).print(b"14 last heard after the greatest time");
     past_edge(QUEUED, UNUSED, 14).print(b"14 queued events");
 }
 
@@ -100,10 +105,13 @@ fn damaged_groups() {
 fn let_through_groups() {
     at_edge(GREATEST_TIME, FILLED_SLOTS).print(b"edges of fields");
     at_edge(FILLED_SLOTS, EMPTY_SLOTS).print(b"edges of filled slots");
+    at_edge(HEARD_EARLY, EMPTY_HEARD).print(b"edges of last heard times");
     at_edge(QUEUED, UNUSED).print(b"edges of queued events");
-    past_edge(EMPTY_SLOTS, QUEUED, NOT_14).print(b"not looked at: empty slots");
+    past_edge(EMPTY_SLOTS, QUEUED, NOT_14)
+        .plus(past_edge(EMPTY_HEARD, FIELDS, NOT_14))
+        .print(b"not looked at: empty slots");
     past_edge(UNUSED, UNLOOKED, NOT_14).print(b"not looked at: unused ring places");
-    past_edge(UNLOOKED, FIELDS, NOT_14).print(b"not looked at: other fields");
+    past_edge(UNLOOKED, HEARD_EARLY, NOT_14).print(b"not looked at: other fields");
     sound_calls(0)
         .plus(sound_calls(MOST))
         .print(b"not looked at: words");

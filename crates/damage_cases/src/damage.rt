@@ -2,6 +2,7 @@
 use crate::fields::GREATEST_TIME;
 use crate::fields::LAST_UPDATE;
 use crate::fields::RING;
+use crate::fields::heard_slot_of;
 use crate::fields::place_of;
 use crate::fields::slot_of;
 use crate::sound::expired;
@@ -28,13 +29,13 @@ pub struct Damage {
 }
 
 // Past the fields' numbers: the sound tunnel.
-const SOUND: u64 = 96;
+const SOUND: u64 = 107;
 
 // Past the fields' numbers: the sound tunnel with an expired handshake.
-const ENDED: u64 = 97;
+const ENDED: u64 = 108;
 
 // Past the fields' numbers: the tunnel that expired by a waking.
-const WOKEN: u64 = 98;
+const WOKEN: u64 = 109;
 
 // The sound tunnel.
 pub fn no_damage() -> Damage {
@@ -162,6 +163,15 @@ fn with_session_value(mut session: Session, field: u64, value: u64) -> Session {
     session
 }
 
+// A slot's last heard time set to a value.
+fn with_heard(mut sessions: Sessions, field: u64, value: u64) -> Sessions {
+    let slot = (heard_slot_of(field) % 8) as usize;
+    let mut session = sessions.slots[slot];
+    session.last_heard = value;
+    sessions.slots[slot] = session;
+    sessions
+}
+
 // An established event at a place of the ring, whose first or second time is this.
 fn with_event(mut events: RingBuffer, field: u64, time: u64) -> RingBuffer {
     let place = (place_of(field) % 16) as usize;
@@ -204,7 +214,8 @@ fn with_value(mut control: Control, field: u64, value: u64) -> Control {
         20..=51 => control.sessions = with_slot(control.sessions, field, value),
         52..=83 => control.events = with_event(control.events, field, value),
         84..=95 => control = changed(control, field),
-        97 => control.handshake = expired_handshake(control.handshake),
+        96..=106 => control.sessions = with_heard(control.sessions, field, value),
+        108 => control.handshake = expired_handshake(control.handshake),
         _ => control = with_first(control, value),
     }
     control

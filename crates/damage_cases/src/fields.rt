@@ -40,8 +40,17 @@ pub const UNUSED: u64 = 66;
 // The first of the fields that number 14 does not look at.
 pub const UNLOOKED: u64 = 84;
 
+// The first of the three last heard times of the filled slots, before the time from which the session's age counts.
+pub const HEARD_EARLY: u64 = 96;
+
+// The first of the three last heard times of the filled slots, after the greatest time.
+pub const HEARD_LATE: u64 = 99;
+
+// The first of the five last heard times of the empty slots, after the greatest time.
+pub const EMPTY_HEARD: u64 = 102;
+
 // How many fields there are.
-pub const FIELDS: u64 = 96;
+pub const FIELDS: u64 = 107;
 
 // The slot of a field of the slots: slots 1, 2 and 5 are filled.
 pub fn slot_of(field: u64) -> u64 {
@@ -57,6 +66,52 @@ pub fn slot_of(field: u64) -> u64 {
     }
 }
 
+// The slot of a last heard time.
+pub fn heard_slot_of(field: u64) -> u64 {
+    match field {
+        96 | 99 => 1,
+        97 | 100 => 2,
+        98 | 101 => 5,
+        102 => 0,
+        103 => 3,
+        104 => 4,
+        105 => 6,
+        _ => 7,
+    }
+}
+
+// The time from which the age of a filled slot's session counts.
+fn established(slot: u64) -> u64 {
+    match slot {
+        2 => 5500,
+        _ => 3000,
+    }
+}
+
+// One nanosecond before it.
+fn before_established(slot: u64) -> u64 {
+    match slot {
+        2 => 5499,
+        _ => 2999,
+    }
+}
+
+// The time at which a filled slot's session was last heard.
+fn heard(slot: u64) -> u64 {
+    match slot {
+        2 => 5500,
+        _ => 4000,
+    }
+}
+
+// One nanosecond after it.
+fn after_heard(slot: u64) -> u64 {
+    match slot {
+        2 => 5501,
+        _ => 4001,
+    }
+}
+
 // The place of a field of the ring: the queue begins at place 12.
 pub fn place_of(field: u64) -> u64 {
     (field / 2 + 2) % 16
@@ -65,7 +120,7 @@ pub fn place_of(field: u64) -> u64 {
 // The last value that number 14 lets through in a field of a filled slot: its time, send counter, window's next and local index.
 fn slot_edge(field: u64) -> u64 {
     match field % 4 {
-        0 => GREATEST,
+        0 => heard(slot_of(field)),
         1 => REJECT_AFTER_MESSAGES,
         2 => REJECT_AFTER_MESSAGES,
         _ => 4294967288 + slot_of(field) % 8,
@@ -75,7 +130,7 @@ fn slot_edge(field: u64) -> u64 {
 // A value that it does not let through there.
 fn slot_beyond(field: u64) -> u64 {
     match field % 4 {
-        0 => GREATEST + 1,
+        0 => after_heard(slot_of(field)),
         1 => REJECT_AFTER_MESSAGES + 1,
         2 => REJECT_AFTER_MESSAGES + 1,
         _ => 257 + slot_of(field) % 8,
@@ -92,6 +147,7 @@ pub fn edge(field: u64) -> u64 {
         18 => 15,
         19 => 16,
         20..=51 => slot_edge(field),
+        96..=98 => established(heard_slot_of(field)),
         _ => GREATEST,
     }
 }
@@ -106,6 +162,7 @@ pub fn beyond(field: u64) -> u64 {
         18 => 16,
         19 => 17,
         20..=51 => slot_beyond(field),
+        96..=98 => before_established(heard_slot_of(field)),
         _ => GREATEST + 1,
     }
 }

@@ -118,6 +118,9 @@ fn same_session(a: Session, b: Session) -> bool {
     if a.established_at != b.established_at {
         return false;
     }
+    if a.last_heard != b.last_heard {
+        return false;
+    }
     if a.receiving_index != b.receiving_index {
         return false;
     }

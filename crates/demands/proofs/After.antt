@@ -6,7 +6,7 @@ use Prim.Native.Nat.{ℕ, _+_, _^_, _<_}
 use native.Mathlib.Omega.{arith}
 use lib.ListN.{length, length-append, getD-replicate, length-replicate}
 use Rattle.sessions.proofs.Laws.{empty-law}
-use Rattle.demands.proofs.Held.{Held}
+use Rattle.demands.proofs.Held.{Past, noPast, Held}
 use Rattle.tunnel.specs.Control.{newControl}
 use Rattle.tunnel.specs.declared.answer.Answer.the-variants.{Done}
 use Rattle.demands.proofs.Created.{created-is}
@@ -16,6 +16,7 @@ use Rattle.demands.proofs.Queued.{queue-new}
 use Rattle.demands.proofs.Stepped.{next}
 use Rattle.demands.specs.Calls.{Call, World, Reply, step, after, Creation, creating, created, Good}
 use Rattle.demands.specs.Made.{Made, made, Insertion, insertionBy, inserted, insertions}
+use Rattle.demands.specs.LastHeard.{heardFrom, heardOf}
 use Rattle.demands.specs.Receiving.{historyFrom, historyOf}
 use Rattle.demands.specs.Sending.{Grant, wokenGrant, answeredGrant, wokenGrants, grantsFrom, grants, countersOf, PolledKeepalive, polledBy, polled}
 use Rattle.base.specs.Lists.{upFrom, zeros}
@@ -26,10 +27,14 @@ use Rattle.tunnel.specs.Sound.{Sound}
 use Rattle.tunnel.specs.Tunnel as calls
 use Rattle.tunnel.specs.Tunnel.{Called, answered}
 
+-- what calls committed to a session
+abbrev pub pastOf : ℕ → World → List Call → Past
+pastOf id w calls = record { history = historyOf id w calls; heard = heardOf id w calls }
+
 -- what is known after a list of calls
-abbrev KnownAfter : (ins : List Insertion) (h : ℕ → List ℕ) (g k : List Grant) (polls : List PolledKeepalive) → World → List Call → Type 0
+abbrev KnownAfter : (ins : List Insertion) (h : ℕ → Past) (g k : List Grant) (polls : List PolledKeepalive) → World → List Call → Type 0
 KnownAfter ins h g k polls w calls =
-    Known (ins ++ inserted (made w calls)) (λ id. historyFrom id (h id) (made w calls)) (g ++ grantsFrom (length ins) (made w calls))
+    Known (ins ++ inserted (made w calls)) (λ id. record { history = historyFrom id (h id .history) (made w calls); heard = heardFrom id (h id .heard) (made w calls) }) (g ++ grantsFrom (length ins) (made w calls))
     (k ++ wokenGrants (made w calls)) (polls ++ polled (made w calls)) (after w calls .tunnel .control) (after w calls .store)
 
 -- what follows grants, and what follows that
@@ -41,9 +46,9 @@ grants-first : (ins m : List Insertion) (g a v : List Grant) (later : List Made)
     → g ++ (a ++ (v ++ grantsFrom (length ins + length m) later)) ≡ (g ++ (a ++ v)) ++ grantsFrom (length (ins ++ m)) later
 grants-first ins m g a v later = rw (length-append ins m) (assoc-three g a v (grantsFrom (length ins + length m) later))
 
-known-after : (calls : List Call) (ins : List Insertion) (h : ℕ → List ℕ) (g k : List Grant) (polls : List PolledKeepalive) (w : World) → Sound (w .tunnel)
+known-after : (calls : List Call) (ins : List Insertion) (h : ℕ → Past) (g k : List Grant) (polls : List PolledKeepalive) (w : World) → Sound (w .tunnel)
     → length ins + insertions (made w calls) < 2 ^ 64 → Known ins h g k polls (w .tunnel .control) (w .store) → KnownAfter ins h g k polls w calls
-unfolding made inserted historyFrom grantsFrom wokenGrants polled after
+unfolding made inserted historyFrom heardFrom grantsFrom wokenGrants polled after
 known-after [] ins h g k polls w s few y =
     known-as ins _ h g _ k _ polls _ _ _ (append-nil ins) (append-nil g) (append-nil k) (append-nil polls) y
 known-after (call ∷ calls) ins h g k polls w s few y =
@@ -67,7 +72,7 @@ no-counters : (id : ℕ) → countersOf id [] ≡ []
 unfolding countersOf
 no-counters id = refl
 
-held-new : (index : ℕ) → Held [] (λ id. []) [] (newSessions index) (zeros 1024)
+held-new : (index : ℕ) → Held [] (λ id. noPast) [] (newSessions index) (zeros 1024)
 unfolding newSessions emptySlots
 held-new index =
     record {
@@ -82,15 +87,15 @@ held-new index =
     }
 
 known-new : (index keepalive now : ℕ) (a : Called) → a ≡ record { answered = answered (calls.newTunnel index keepalive now) Done; store = zeros 1024 }
-    → Known [] (λ id. []) [] [] [] (a .answered .tunnel .control) (a .store)
+    → Known [] (λ id. noPast) [] [] [] (a .answered .tunnel .control) (a .store)
 unfolding calls.newTunnel newControl
 known-new index keepalive now a e = rw e (record { held = held-new index; queue = queue-new })
 
-known-created : (c : Creation) → Good c → Known [] (λ id. []) [] [] [] (created c .tunnel .control) (created c .store)
+known-created : (c : Creation) → Good c → Known [] (λ id. noPast) [] [] [] (created c .tunnel .control) (created c .store)
 known-created c good = known-new (c .index) (c .keepalive) (c .now) (creating c) (created-is c good)
 
 -- what is known after a list of calls from a creation that is not turned down
 pub known-run : (c : Creation) → Good c → (calls : List Call) → insertions (made (created c) calls) < 2 ^ 64
-    → Known (inserted (made (created c) calls)) (λ id. historyOf id (created c) calls) (grants (made (created c) calls)) (wokenGrants (made (created c) calls))
+    → Known (inserted (made (created c) calls)) (λ id. pastOf id (created c) calls) (grants (made (created c) calls)) (wokenGrants (made (created c) calls))
     (polled (made (created c) calls)) (after (created c) calls .tunnel .control) (after (created c) calls .store)
-known-run c good calls few = known-after calls [] (λ id. []) [] [] [] (created c) (sound-created c) (omega (arith, few)) (known-created c good)
+known-run c good calls few = known-after calls [] (λ id. noPast) [] [] [] (created c) (sound-created c) (omega (arith, few)) (known-created c good)

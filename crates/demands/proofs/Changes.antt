@@ -2,7 +2,7 @@
 -- inserted there.
 -- Assumes nothing.
 use mathlib.Core.Path.{_≡_, refl, ap, sym, _∙_}
-use mathlib.Core.Bool.{true}
+use mathlib.Core.Bool.{Bool, true, false}
 use mathlib.Core.List.{List, [], _∷_, _++_, append-nil}
 use Prim.Native.Nat.{ℕ, _+_, _%_, _^_, _≤_, _<_}
 use native.Mathlib.Omega.{arith}
@@ -11,21 +11,24 @@ use lib.Seq.{getD-append-seam}
 use borrow.Author.Tests.{eq-eqb}
 use Rattle.base.specs.Choice.{choose}
 use Rattle.base.proofs.Counting.{join-upFrom, length-upFrom}
-use Rattle.demands.proofs.Held.{counters-on, counters-own, counters-other, Runs, messageIn, insertionAt, longer-same, longer-on, SlotHeld, Held, found-filled, held-found, Changed, held-changed}
-use Rattle.sessions.specs.Laws.{InSlot, Kept}
-use Rattle.sessions.proofs.Laws.{lookup-law, slot-law, whole-law, slots-apart}
+use Rattle.demands.proofs.Held.{Past, noPast, counters-on, counters-own, counters-other, Runs, messageIn, insertionAt, longer-same, longer-on, SlotHeld, Held, found-filled, held-found, Changed, held-changed}
+use Rattle.sessions.specs.Laws.{InSlot, Kept, commits}
+use Rattle.sessions.proofs.Laws.{lookup-law, slot-law, whole-law, slots-apart, heard-law}
 use Rattle.demands.proofs.Moves.{put-at, changed-put}
 use Rattle.demands.specs.Made.{Insertion}
 use Rattle.demands.specs.Sending.{Grant, granting, countersOf}
 use Rattle.base.specs.Lists.{upFrom, zeros}
-use Rattle.demands.proofs.Judged.{batch-law, inserted-law, judged-stands, batchOf, sessionAfter, storeAfter}
+use Rattle.demands.proofs.Judged.{batch-law, inserted-law, judged-stands, receive-judged, batchOf, sessionAfter, storeAfter}
 use Rattle.sessions.specs.Batch.{receivingSession, fits}
 use Rattle.demands.specs.History.{recordedAll, BatchLaw, BatchCall, BatchFor}
 use Rattle.sessions.specs.Index.{slotOf}
 use Rattle.sessions.specs.Session.{withId}
 use Rattle.sessions.specs.Sessions.{slotAt, put, inserting, insert}
 use Rattle.sessions.specs.Store.{slotWords, putSlot}
+use Rattle.sessions.specs.Cases.{caseTime}
 use Rattle.sessions.specs.declared.session.Session.{Session}
+use Rattle.sessions.specs.declared.session.Time.the-variants.{At}
+use Rattle.tunnel.specs.Timers.{getOr}
 use Rattle.sessions.specs.declared.sessions.Found.the-variants.{Got}
 use Rattle.sessions.specs.declared.sessions.Sessions.{Sessions}
 use Rattle.window.specs.Window.{limit}
@@ -39,14 +42,15 @@ changed-on s t u store mid left j a b =
       others = λ k low d. (b .others k low d .0 ∙ a .others k low d .0, b .others k low d .1 ∙ a .others k low d .1);
     }
 
--- a session that has the identity of another: its id, its index, its handshake message and its window's next
+-- a session that has the identity of another: its id, its index, its handshake message, its window's next and when it was last heard
 pub record Alike (x y : Session) : Type 0 where
   pub id : y .id ≡ x .id
   pub index : y .«receiving_index» ≡ x .«receiving_index»
   pub message : messageIn y ≡ messageIn x
   pub next : y .next ≡ x .next
+  pub heard : y .«last_heard» ≡ x .«last_heard»
 
-module _ (ins : List Insertion) (h : ℕ → List ℕ) (g : List Grant) (s last : Sessions) (store : List ℕ) (w : Held ins h g s store) (x y : Session)
+module _ (ins : List Insertion) (h : ℕ → Past) (g : List Grant) (s last : Sessions) (store : List ℕ) (w : Held ins h g s store) (x y : Session)
     (found : InSlot s (x .«receiving_index») x) (same : Alike x y) where
   abbrev j : ℕ
   j = slotOf (x .«receiving_index»)
@@ -69,6 +73,7 @@ module _ (ins : List Insertion) (h : ℕ → List ℕ) (g : List Grant) (s last 
           named = rw (same .id) (own-slot .named);
           message = ap (λ (i : ℕ). insertionAt ins i) (same .id) ∙ own-slot .message ∙ sym (same .message);
           stands = rw (same .id, same .next) (own-slot .stands);
+          heard = rw (same .id, same .heard, ap (λ (i : Insertion). i .at) (same .message)) (own-slot .heard);
           granted = ap (λ (i : ℕ). countersOf i f) (same .id) ∙ own;
         } in
         held-changed ins ins h h g f s last store store j w c (longer-same ins) (count ∙ w .count) (rw there mine)
@@ -103,8 +108,9 @@ module _ (ins : List Insertion) (h : ℕ → List ℕ) (g : List Grant) (s last 
       held-counted c there count (rw e counter-below) g (λ i d. refl) (own-slot .granted ∙ ap (λ (i : ℕ). upFrom 0 i) (sym e))
 
 -- a session inserted
-module _ (ins : List Insertion) (h : ℕ → List ℕ) (g : List Grant) (s : Sessions) (store : List ℕ) (w : Held ins h g s store) (x : Session)
-    (filled : x .filled ≡ true) (next : x .next ≡ 0) (counter : x .«sending_key_counter» ≡ 0) (few : length ins + 1 < 2 ^ 64) where
+module _ (ins : List Insertion) (h : ℕ → Past) (g : List Grant) (s : Sessions) (store : List ℕ) (w : Held ins h g s store) (x : Session)
+    (filled : x .filled ≡ true) (next : x .next ≡ 0) (counter : x .«sending_key_counter» ≡ 0)
+    (heard : x .«last_heard» ≡ x .«established_at») (few : length ins + 1 < 2 ^ 64) where
   abbrev slot : ℕ
   slot = slotOf (x .«receiving_index»)
 
@@ -138,6 +144,10 @@ module _ (ins : List Insertion) (h : ℕ → List ℕ) (g : List Grant) (s : Ses
   unfolding upFrom
   none-yet = refl
 
+  heard-inserted : (past : Past) (y : Session) → past ≡ noPast → y ≡ withId x (s .inserted) → y .«last_heard» ≡ getOr (past .heard) (y .«established_at»)
+  unfolding getOr caseTime
+  heard-inserted past y e f = rw (e, f) heard
+
   pub held-inserted : Held then h g (insert s store x .sessions) (insert s store x .store)
   held-inserted =
       let id : slotAt (insert s store x .sessions) slot .id ≡ length ins = ap (λ (z : Session). z .id) inserted-at ∙ w .count in
@@ -154,6 +164,7 @@ module _ (ins : List Insertion) (h : ℕ → List ℕ) (g : List Grant) (s : Ses
         named = rw (id, one-more) (omega arith);
         message = ap (λ (i : ℕ). insertionAt then i) id ∙ getD-append-seam ins (messageIn x) [] _ ∙ ap messageIn (sym inserted-at);
         stands = rw (id, w .unborn (length ins) (omega arith)) (inserted-law s store x (w .eight) (w .size) next .stands);
+        heard = heard-inserted _ _ (ap h id ∙ w .unborn (length ins) (omega arith)) inserted-at;
         granted = ap (λ (i : ℕ). countersOf i g) id ∙ w .ungranted (length ins) (omega arith) ∙ none-yet
             ∙ ap (λ (i : ℕ). upFrom 0 i) (sym (ap (λ (z : Session). z .«sending_key_counter») inserted-at ∙ counter));
       })
@@ -163,7 +174,7 @@ module _ (ins : List Insertion) (h : ℕ → List ℕ) (g : List Grant) (s : Ses
       (w .runs _)
 
 -- a batch judged
-module _ (ins : List Insertion) (h : ℕ → List ℕ) (g : List Grant) (s : Sessions) (store : List ℕ) (w : Held ins h g s store) (index id now : ℕ)
+module _ (ins : List Insertion) (h : ℕ → Past) (g : List Grant) (s : Sessions) (store : List ℕ) (w : Held ins h g s store) (index id now : ℕ)
     (counters kinds verdicts skips : List ℕ) (x : Session) (fit : fits counters kinds verdicts skips ≡ true) (found : receivingSession s index id now ≡ Got x) where
   abbrev call : BatchCall
   call = record { sessions = s; store = store; index = index; id = id; now = now; counters = counters; kinds = kinds; verdicts = verdicts; skips = skips }
@@ -183,7 +194,7 @@ module _ (ins : List Insertion) (h : ℕ → List ℕ) (g : List Grant) (s : Ses
   own : SlotHeld ins h g at x (slotWords store at)
   own = held-found ins h g s store w index x in-slot
 
-  live : BatchFor call x (h id)
+  live : BatchFor call x (h id .history)
   live =
       record {
         eight = w .eight;
@@ -193,11 +204,11 @@ module _ (ins : List Insertion) (h : ℕ → List ℕ) (g : List Grant) (s : Ses
         stands = rw (in-slot .stored, ← named) (own .stands);
       }
 
-  pub batch-judged : BatchLaw call (h id)
-  batch-judged = batch-law call x (h id) live
+  pub batch-judged : BatchLaw call (h id .history)
+  batch-judged = batch-law call x (h id .history) live
 
   abbrev left : Session
-  left = sessionAfter store x counters kinds
+  left = sessionAfter store x now counters kinds
 
   left-at : slotAt (put s left) at ≡ left
   left-at = ap (λ (i : ℕ). slotAt (put s left) (slotOf i)) (sym (in-slot .named)) ∙ put-at s left store (w .eight)
@@ -209,7 +220,28 @@ module _ (ins : List Insertion) (h : ℕ → List ℕ) (g : List Grant) (s : Ses
   size-left : length (storeAfter store x counters kinds) ≡ length store
   size-left = slot-law store _ (slotOf (x .«receiving_index»)) (w .size) (omega arith) .whole ∙ sym (w .size)
 
-  module _ (i : ℕ → List ℕ) (mine : i id ≡ recordedAll (h id) counters (batchOf store x counters kinds .verdicts)) (others : (y : ℕ) → (y ≡ id → ⊥) → i y ≡ h y) where
+  -- the session's past with what this batch committed
+  abbrev past : Past
+  past =
+      record {
+        history = recordedAll (h id .history) counters (batchOf store x counters kinds .verdicts);
+        heard = choose (commits (batchOf store x counters kinds .verdicts)) (At now) (h id .heard);
+      }
+
+  -- when the session was last heard then
+  left-heard : left .«last_heard» ≡ getOr (past .heard) (x .«established_at»)
+  unfolding getOr choose caseTime
+  left-heard = go (commits (batchOf store x counters kinds .verdicts)) refl
+    where
+      go : (b : Bool) → commits (batchOf store x counters kinds .verdicts) ≡ b → left .«last_heard» ≡ getOr (past .heard) (x .«established_at»)
+      go true e =
+          let goes = receive-judged s store index id now counters kinds verdicts skips x (w .size) fit found in
+          heard-law s store index id now counters kinds verdicts skips .committed left (batchOf store x counters kinds .out) (rw goes refl) (rw goes e) ∙ rw e refl
+      go false e =
+          let goes = receive-judged s store index id now counters kinds verdicts skips x (w .size) fit found in
+          heard-law s store index id now counters kinds verdicts skips .uncommitted x left (batchOf store x counters kinds .out) in-slot (rw goes refl) (rw goes e) ∙ own .heard ∙ rw (e, named) refl
+
+  module _ (i : ℕ → Past) (mine : i id ≡ past) (others : (y : ℕ) → (y ≡ id → ⊥) → i y ≡ h y) where
     pub held-judged : Held ins i g (put s left) (storeAfter store x counters kinds)
     held-judged =
         let is : slotAt (put s left) at .id ≡ id = ap (λ (z : Session). z .id) left-at ∙ named in
@@ -227,7 +259,8 @@ module _ (ins : List Insertion) (h : ℕ → List ℕ) (g : List Grant) (s : Ses
           placed = ap (λ (z : Session). slotOf (z .«receiving_index»)) left-at ∙ ap slotOf (in-slot .named);
           named = rw (is, ← named) (own .named);
           message = ap (λ (i : ℕ). insertionAt ins i) (is ∙ sym named) ∙ own .message ∙ ap messageIn (sym left-at);
-          stands = rw (is, mine, ← in-slot .named) (judged-stands call x (h id) live);
+          stands = rw (is, mine, ← in-slot .named) (judged-stands call x (h id .history) live);
+          heard = rw (is, mine, left-at) left-heard;
           granted = ap (λ (k : ℕ). countersOf k g) (is ∙ sym named) ∙ own .granted
               ∙ ap (λ (k : ℕ). upFrom 0 k) (sym (ap (λ (z : Session). z .«sending_key_counter») left-at));
         })

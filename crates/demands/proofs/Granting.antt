@@ -20,7 +20,7 @@ use Rattle.tunnel.specs.declared.control.Out.{Out}
 use Rattle.tunnel.specs.declared.encapsulate.Datagram.the-variants.{Skipped, Sent}
 use Rattle.tunnel.specs.declared.encapsulate.Encrypted.{Encrypted}
 use Rattle.demands.proofs.Changes.{Alike, changed-on, held-marked, held-granted}
-use Rattle.demands.proofs.Held.{Changed}
+use Rattle.demands.proofs.Held.{Past, Changed}
 use Rattle.demands.proofs.Known.{Known, plain-of, Idle, idle-refused}
 use Rattle.sessions.specs.Laws.{InSlot}
 use Rattle.demands.proofs.Moves.{put-at, changed-put}
@@ -59,7 +59,7 @@ reserved x len first y e =
 pub record Grants (c : Control) (store : List ℕ) (d : Control) (peer first len : ℕ) (x : Session) : Type 0 where
   pub current : currentOf (c .sessions) ≡ Got x
   pub peer-is : x .«sending_index» ≡ peer
-  pub known : (ins : List Insertion) (h : ℕ → List ℕ) (g k : List Grant) (polls : List PolledKeepalive) → Known ins h g k polls c store
+  pub known : (ins : List Insertion) (h : ℕ → Past) (g k : List Grant) (polls : List PolledKeepalive) → Known ins h g k polls c store
       → Known ins h (g ++ granting (x .id) peer first len ∷ []) k polls d store
 
 -- the current session's counter moved on
@@ -92,7 +92,7 @@ module _ (c d : Control) (store : List ℕ) (x : Session) (len : ℕ) (current :
   grants-once : d .sessions ≡ put (c .sessions) then → Grants c store d (x .«sending_index») (x .«sending_key_counter») len x
   unfolding put
   grants-once e =
-      grants-at then (record { id = refl; index = refl; message = refl; next = refl }) refl
+      grants-at then (record { id = refl; index = refl; message = refl; next = refl; heard = refl }) refl
       (λ n p q. rw e (changed-put (c .sessions) then store (p ∙ q), put-at (c .sessions) then store (p ∙ q))) (ap (λ (s : Sessions). s .inserted) e)
 
   abbrev prepared : Session
@@ -102,7 +102,7 @@ module _ (c d : Control) (store : List ℕ) (x : Session) (len : ℕ) (current :
       → Grants c store d (x .«sending_index») (x .«sending_key_counter») len x
   unfolding put preparePacketData
   grants-prepared e =
-      grants-at (withCounter prepared (x .«sending_key_counter» + len)) (record { id = refl; index = refl; message = refl; next = refl }) refl
+      grants-at (withCounter prepared (x .«sending_key_counter» + len)) (record { id = refl; index = refl; message = refl; next = refl; heard = refl }) refl
       (λ n p q.
       (let a : Changed (c .sessions) (put (c .sessions) prepared) store store at = changed-put (c .sessions) prepared store (p ∙ q) in
       rw e (
@@ -147,7 +147,7 @@ module _ (c : Control) (store : List ℕ) (x : Session) (count now : ℕ) (curre
         known = λ ins h g k polls w.
             record {
               held = held-marked ins h g (c .sessions) _ store (w .held) x (preparePacketData x) (lookup-law (c .sessions) .current x current)
-                  (record { id = refl; index = refl; message = refl; next = refl }) (changed-put (c .sessions) (preparePacketData x) store (w .held .eight))
+                  (record { id = refl; index = refl; message = refl; next = refl; heard = refl }) (changed-put (c .sessions) (preparePacketData x) store (w .held .eight))
                   (put-at (c .sessions) (preparePacketData x) store (w .held .eight)) refl refl;
               queue = w .queue;
             };

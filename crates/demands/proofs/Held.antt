@@ -1,4 +1,4 @@
--- What is known of the sessions and the store after any calls: each filled slot stands for its session's history and grants, and sessions are
+-- What is known of the sessions and the store after any calls: each filled slot stands for its session's past and grants, and sessions are
 -- told apart by id.
 -- Assumes nothing.
 use mathlib.Core.Path.{_≡_, refl, ap, sym, _∙_}
@@ -20,7 +20,10 @@ use Rattle.sessions.specs.Laws.{InSlot}
 use Rattle.sessions.specs.Sessions.{slotAt}
 use Rattle.sessions.specs.Store.{slotWords}
 use Rattle.sessions.specs.declared.session.Session.{Session}
+use Rattle.sessions.specs.declared.session.Time.the-variants.{Never}
+use Rattle.sessions.specs.declared.session.Time.{Time}
 use Rattle.sessions.specs.declared.sessions.Sessions.{Sessions}
+use Rattle.tunnel.specs.Timers.{getOr}
 use Rattle.window.specs.History.{Represents}
 use Rattle.window.specs.Window.{limit}
 
@@ -65,27 +68,37 @@ longer-same ins = record { long = omega arith; same = λ id l. refl }
 pub longer-on : (ins more : List Insertion) → Longer ins (ins ++ more)
 longer-on ins more = record { long = rw (length-append ins more) (omega arith); same = λ id l. List·getD-append ins more _ id l }
 
--- a filled slot's record and words, with the insertions, the histories and the grants of all sessions
-pub record SlotHeld (ins : List Insertion) (h : ℕ → List ℕ) (g : List Grant) (slot : ℕ) (x : Session) (words : List ℕ) : Type 0 where
+-- what calls committed to a session: its history, and the time of the last batch that committed
+pub record Past : Type 0 where
+  pub history : List ℕ
+  pub heard : Time
+
+-- the past of a session to which nothing was committed
+abbrev pub noPast : Past
+noPast = record { history = []; heard = Never }
+
+-- a filled slot's record and words, with the insertions, the pasts and the grants of all sessions
+pub record SlotHeld (ins : List Insertion) (h : ℕ → Past) (g : List Grant) (slot : ℕ) (x : Session) (words : List ℕ) : Type 0 where
   pub placed : slotOf (x .«receiving_index») ≡ slot
   pub named : x .id < length ins
   pub message : insertionAt ins (x .id) ≡ messageIn x
-  pub stands : Represents (h (x .id)) words (x .next)
+  pub stands : Represents (h (x .id) .history) words (x .next)
+  pub heard : x .«last_heard» ≡ getOr (h (x .id) .heard) (x .«established_at»)
   pub granted : countersOf (x .id) g ≡ upFrom 0 (x .«sending_key_counter»)
 
 -- sessions and a store after insertions
-pub record Held (ins : List Insertion) (h : ℕ → List ℕ) (g : List Grant) (s : Sessions) (store : List ℕ) : Type 0 where
+pub record Held (ins : List Insertion) (h : ℕ → Past) (g : List Grant) (s : Sessions) (store : List ℕ) : Type 0 where
   pub eight : length (s .slots) ≡ 8
   pub size : length store ≡ 1024
   pub count : s .inserted ≡ length ins
   pub slots : (k : ℕ) → k < 8 → slotAt s k .filled ≡ true → SlotHeld ins h g k (slotAt s k) (slotWords store k)
   pub apart : (j k : ℕ) → j < 8 → k < 8 → slotAt s j .filled ≡ true → slotAt s k .filled ≡ true → slotAt s j .id ≡ slotAt s k .id → j ≡ k
-  pub unborn : (id : ℕ) → length ins ≤ id → h id ≡ []
+  pub unborn : (id : ℕ) → length ins ≤ id → h id ≡ noPast
   pub ungranted : (id : ℕ) → length ins ≤ id → countersOf id g ≡ []
   pub runs : (id : ℕ) → Runs (countersOf id g)
 
 -- what is known of a session that is found in its slot
-module _ (ins : List Insertion) (h : ℕ → List ℕ) (g : List Grant) (s : Sessions) (store : List ℕ) (w : Held ins h g s store) (index : ℕ) (x : Session)
+module _ (ins : List Insertion) (h : ℕ → Past) (g : List Grant) (s : Sessions) (store : List ℕ) (w : Held ins h g s store) (index : ℕ) (x : Session)
     (found : InSlot s index x) where
   pub found-filled : slotAt s (slotOf index) .filled ≡ true
   found-filled = ap (λ (z : Session). z .filled) (found .stored) ∙ found .filled
@@ -120,7 +133,7 @@ carried-on s t u store mid left a b =
           (p .0 ∙ q .0, p .1 ∙ q .1);
     }
 
-module _ (ins : List Insertion) (h : ℕ → List ℕ) (g : List Grant) (s last : Sessions) (store left : List ℕ) (w : Held ins h g s store) where
+module _ (ins : List Insertion) (h : ℕ → Past) (g : List Grant) (s last : Sessions) (store left : List ℕ) (w : Held ins h g s store) where
   was-filled : (k : ℕ) → (slotAt last k ≡ slotAt s k) × (slotWords left k ≡ slotWords store k) → slotAt last k .filled ≡ true → slotAt s k .filled ≡ true
   was-filled k p f = ap (λ (x : Session). x .filled) (sym (p .0)) ∙ f
 
@@ -150,14 +163,14 @@ pub record Changed (s last : Sessions) (store left : List ℕ) (slot : ℕ) : Ty
   pub others : (k : ℕ) → k < 8 → (k ≡ slot → ⊥) → (slotAt last k ≡ slotAt s k) × (slotWords left k ≡ slotWords store k)
 
 -- one slot changed: what is to be known of it and of its session
-module _ (ins then : List Insertion) (h i : ℕ → List ℕ) (g f : List Grant) (s last : Sessions) (store left : List ℕ) (j : ℕ) (w : Held ins h g s store)
+module _ (ins then : List Insertion) (h i : ℕ → Past) (g f : List Grant) (s last : Sessions) (store left : List ℕ) (j : ℕ) (w : Held ins h g s store)
     (c : Changed s last store left j) where
   abbrev id : ℕ
   id = slotAt last j .id
 
   module _ (more : Longer ins then) (count : last .inserted ≡ length then) (mine : SlotHeld then i f j (slotAt last j) (slotWords left j))
       (distinct : (k : ℕ) → k < 8 → (k ≡ j → ⊥) → slotAt s k .filled ≡ true → slotAt s k .id ≡ id → ⊥)
-      (histories : (x : ℕ) → (x ≡ id → ⊥) → i x ≡ h x) (grants : (x : ℕ) → (x ≡ id → ⊥) → countersOf x f ≡ countersOf x g)
+      (pasts : (x : ℕ) → (x ≡ id → ⊥) → i x ≡ h x) (grants : (x : ℕ) → (x ≡ id → ⊥) → countersOf x f ≡ countersOf x g)
       (run : Runs (countersOf id f)) where
     other-slot : (k : ℕ) → k < 8 → (k ≡ j → ⊥) → slotAt last k .filled ≡ true → SlotHeld then i f k (slotAt last k) (slotWords left k)
     other-slot k low d e =
@@ -170,7 +183,8 @@ module _ (ins then : List Insertion) (h i : ℕ → List ℕ) (g f : List Grant)
           placed = y .placed;
           named = omega (arith, y .named, more .long);
           message = more .same (slotAt s k .id) (y .named) ∙ y .message;
-          stands = rw (histories (slotAt s k .id) z) (y .stands);
+          stands = rw (pasts (slotAt s k .id) z) (y .stands);
+          heard = rw (pasts (slotAt s k .id) z) (y .heard);
           granted = grants (slotAt s k .id) z ∙ y .granted;
         })
 
@@ -224,7 +238,7 @@ module _ (ins then : List Insertion) (h i : ℕ → List ℕ) (g f : List Grant)
           count = count;
           slots = each-slot;
           apart = each-apart;
-          unborn = λ x l. histories x (above x l) ∙ w .unborn x (omega (arith, l, more .long));
+          unborn = λ x l. pasts x (above x l) ∙ w .unborn x (omega (arith, l, more .long));
           ungranted = λ x l. grants x (above x l) ∙ w .ungranted x (omega (arith, l, more .long));
           runs = each-run;
         }

@@ -25,7 +25,7 @@ use Rattle.demands.proofs.Granting.Encrypts.{skips, sends}
 use Rattle.demands.proofs.Granting.{Encrypts, encrypts}
 use Rattle.demands.proofs.Known.{Known, known-as, Idle, idle-refused, known-carried, known-confirmed}
 use Rattle.demands.proofs.Moves.{carried-next, carried-current}
-use Rattle.demands.proofs.Held.{messageIn}
+use Rattle.demands.proofs.Held.{Past, messageIn}
 use Rattle.demands.specs.Made.{Insertion, insertion}
 use Rattle.demands.specs.Sending.{Grant, granting, PolledKeepalive}
 use Rattle.tunnel.specs.Cases.{caseCompleted}
@@ -43,21 +43,21 @@ use Rattle.sessions.specs.declared.sessions.Found.the-variants.{Got}
 pub data Inserts (c : Control) (store : List ℕ) (message : Insertion) (t : Turn) : Type 0 where
   nothing : Idle c store (t .out) (t .store) → (numberOf (t .out .answer) ≡ 0 → ⊥) → Inserts c store message t
   responds : (local peer : ℕ) → t .out .answer ≡ Response local peer
-      → ((ins : List Insertion) (h : ℕ → List ℕ) (g k : List Grant) (polls : List PolledKeepalive) → length ins + 1 < 2 ^ 64 → Known ins h g k polls c store
+      → ((ins : List Insertion) (h : ℕ → Past) (g k : List Grant) (polls : List PolledKeepalive) → length ins + 1 < 2 ^ 64 → Known ins h g k polls c store
       → Known (ins ++ message ∷ []) h g k polls (t .out .control) (t .store))
       → Inserts c store message t
   completes : (peer counter : ℕ) → t .out .answer ≡ Keepalive peer counter
-      → ((ins : List Insertion) (h : ℕ → List ℕ) (g k : List Grant) (polls : List PolledKeepalive) → length ins + 1 < 2 ^ 64 → Known ins h g k polls c store
+      → ((ins : List Insertion) (h : ℕ → Past) (g k : List Grant) (polls : List PolledKeepalive) → length ins + 1 < 2 ^ 64 → Known ins h g k polls c store
       → Known (ins ++ message ∷ []) h (g ++ granting (length ins) peer counter 1 ∷ []) k polls (t .out .control) (t .store))
       → Inserts c store message t
 
 -- a new session inserted
-module _ (ins : List Insertion) (h : ℕ → List ℕ) (g k : List Grant) (polls : List PolledKeepalive) (c d : Control) (store : List ℕ)
+module _ (ins : List Insertion) (h : ℕ → Past) (g k : List Grant) (polls : List PolledKeepalive) (c d : Control) (store : List ℕ)
     (few : length ins + 1 < 2 ^ 64) (w : Known ins h g k polls c store) where
-  known-inserted : (x : Session) → x .filled ≡ true → x .next ≡ 0 → x .«sending_key_counter» ≡ 0 → d .sessions ≡ insert (c .sessions) store x .sessions
+  known-inserted : (x : Session) → x .filled ≡ true → x .next ≡ 0 → x .«sending_key_counter» ≡ 0 → x .«last_heard» ≡ x .«established_at» → d .sessions ≡ insert (c .sessions) store x .sessions
       → d .events ≡ c .events → Known (ins ++ messageIn x ∷ []) h g k polls d (insert (c .sessions) store x .store)
-  known-inserted x a b e p q =
-      record { held = rw p (held-inserted ins h g (c .sessions) store (w .held) x a b e few); queue = rw q (w .queue) }
+  known-inserted x a b e i p q =
+      record { held = rw p (held-inserted ins h g (c .sessions) store (w .held) x a b e i few); queue = rw q (w .queue) }
 
 -- a message turned down
 refuses : (c : Control) (store : List ℕ) (message : Insertion) (number : ℕ) → (number ≡ 0 → ⊥)
@@ -82,13 +82,13 @@ module _ (c : Control) (store : List ℕ) (peer outcome now : ℕ) where
   abbrev message : Insertion
   message = insertion false peer now
 
-  inserted-ready : (local : ℕ) (handshake : Handshake) (ins : List Insertion) (h : ℕ → List ℕ) (g k : List Grant) (polls : List PolledKeepalive)
+  inserted-ready : (local : ℕ) (handshake : Handshake) (ins : List Insertion) (h : ℕ → Past) (g k : List Grant) (polls : List PolledKeepalive)
       → length ins + 1 < 2 ^ 64 → Known ins h g k polls c store
       → Known (ins ++ message ∷ []) h g k polls (responding ready handshake store (newSession local peer Responder now) now)
       (insert (ready .sessions) store (newSession local peer Responder now) .store)
   unfolding responding newSession caseRole
   inserted-ready local handshake ins h g k polls few w =
-      known-inserted ins h g k polls ready _ store few (known-carried ins h g k polls c ready store store (carried-next (c .sessions) store) refl w) _ refl refl refl refl refl
+      known-inserted ins h g k polls ready _ store few (known-carried ins h g k polls c ready store store (carried-next (c .sessions) store) refl w) _ refl refl refl refl refl refl
 
   opened : (local : ℕ) (handshake : Handshake) → Inserts c store message
       (caseCompleted (Opened handshake (newSession local peer Responder now)) (λ number. record { out = refuse ready number; store = store })
@@ -152,18 +152,18 @@ module _ (c : Control) (store : List ℕ) (receiver peer now : ℕ) (handshake :
   abbrev own : Insertion
   own = insertion true peer now
 
-  known-confirming : (ins : List Insertion) (h : ℕ → List ℕ) (g k : List Grant) (polls : List PolledKeepalive) → length ins + 1 < 2 ^ 64
+  known-confirming : (ins : List Insertion) (h : ℕ → Past) (g k : List Grant) (polls : List PolledKeepalive) → length ins + 1 < 2 ^ 64
       → Known ins h g k polls c store → Known (ins ++ own ∷ []) h g k polls ended left
   unfolding confirming newSession caseRole
   known-confirming ins h g k polls few w =
       let more : List Insertion = ins ++ own ∷ [] in
       let a : Known more h g k polls (withSessions (withHandshake c handshake) (insert (c .sessions) store new .sessions)) left =
-      known-inserted ins h g k polls c _ store few w new refl refl refl refl refl in
+      known-inserted ins h g k polls c _ store few w new refl refl refl refl refl refl in
       known-confirmed more h g k polls _ _ now left (known-carried more h g k polls _ _ left left (carried-current _ left receiver) refl a)
 
   -- the keepalive is the new session's first counter
   of-encrypted : (e : Encrypted) → Encrypts ended left e → e .keepalive ≡ Sent peer 0
-      → (ins : List Insertion) (h : ℕ → List ℕ) (g k : List Grant) (polls : List PolledKeepalive) → length ins + 1 < 2 ^ 64 → Known ins h g k polls c store
+      → (ins : List Insertion) (h : ℕ → Past) (g k : List Grant) (polls : List PolledKeepalive) → length ins + 1 < 2 ^ 64 → Known ins h g k polls c store
       → Known (ins ++ own ∷ []) h (g ++ granting (length ins) peer 0 1 ∷ []) k polls (e .control) left
   of-encrypted e (skips p q) s ins h g k polls few w = let z : _≡_ {A = ℕ} 0 1 = cc in absurd (omega arith)
   of-encrypted e (sends x to first v q r) s ins h g k polls few w =

@@ -1,7 +1,7 @@
 -- A batch judged by a history: the verdicts and skips that it gives are those that the history calls for, and its slot stands for the history afterwards.
 -- Assumes nothing.
 use mathlib.Core.Path.{_≡_, refl, ap, sym, _∙_}
-use mathlib.Core.Bool.{Bool, true, false, _||_}
+use mathlib.Core.Bool.{Bool, true, false}
 use mathlib.Core.List.{List, [], _∷_}
 use Prim.Native.Nat.{ℕ, _+_, _%_, _≤_, _<_}
 use native.Mathlib.Omega.{arith}
@@ -19,13 +19,13 @@ use Rattle.sessions.specs.declared.sessions.Sessions.{Sessions}
 use Rattle.sessions.specs.Index.{slotOf}
 use Rattle.sessions.specs.Store.{slotWords, putSlot}
 use Rattle.base.specs.Lists.{zeros}
-use Rattle.sessions.specs.Session.{emptySession, withId, withReceivedData, withNext}
+use Rattle.sessions.specs.Session.{emptySession, withId}
 use Rattle.sessions.specs.Cases.{caseFound}
 use Rattle.sessions.specs.Sessions.{slotAt, put, inserting, insert}
 use Rattle.demands.specs.History.{verdictOn, skipOn, recorded, recordedAll, eachOn, verdictsOn, skipsOn, Stands, VerdictLaw, BatchLaw, InsertedLaw, BatchCall, BatchFor}
 use Rattle.sessions.proofs.Laws.{lookup-law, slot-law}
 use Rattle.sessions.specs.Laws.{InSlot}
-use Rattle.sessions.specs.Batch.{Batched, fits, receivingSession, finishReceivePacketData, finishAll, receive}
+use Rattle.sessions.specs.Batch.{Batched, fits, receivingSession, finishReceivePacketData, finishAll, afterBatch, receive}
 use Rattle.sessions.specs.declared.batch.Received.the-variants.{Judged}
 use Rattle.sessions.specs.declared.sessions.Found.the-variants.{Got}
 
@@ -34,20 +34,20 @@ module _ (store : List ℕ) (x : Session) (counters kinds : List ℕ) where
   abbrev pub batchOf : Batched Progress
   batchOf = finishAll (slotWords store (slotOf (x .«receiving_index»))) (record { next = x .next; accepted = false; «data» = false }) counters kinds
 
-  -- the session after them
-  abbrev pub sessionAfter : Session
-  sessionAfter = withNext (withReceivedData x (x .«received_data» || batchOf .out .«data»)) (batchOf .out .next)
-
   -- the store after them
   abbrev pub storeAfter : List ℕ
   storeAfter = putSlot store (slotOf (x .«receiving_index»)) (batchOf .store)
+
+-- the session after the messages of a batch at a time
+abbrev pub sessionAfter : (store : List ℕ) (x : Session) (now : ℕ) (counters kinds : List ℕ) → Session
+sessionAfter store x now counters kinds = afterBatch x (batchOf store x counters kinds .out) now
 
 -- what a batch that is not turned down hands back
 pub receive-judged : (s : Sessions) (store : List ℕ) (index id now : ℕ) (counters kinds verdicts skips : List ℕ) (x : Session)
     → length store ≡ 1024 → fits counters kinds verdicts skips ≡ true → receivingSession s index id now ≡ Got x
     → receive s store index id now counters kinds verdicts skips
     ≡ record {
-      out = Judged (sessionAfter store x counters kinds) (batchOf store x counters kinds .out);
+      out = Judged (sessionAfter store x now counters kinds) (batchOf store x counters kinds .out);
       store = storeAfter store x counters kinds;
       verdicts = batchOf store x counters kinds .verdicts;
       skips = batchOf store x counters kinds .skips;
@@ -152,19 +152,19 @@ module _ (c : BatchCall) (x : Session) (history : List ℕ) (live : BatchFor c x
   given = judges-all history (slotWords (c .store) (slotOf (x .«receiving_index»))) _ begun (c .counters) (c .kinds)
 
   pub judged-stands : Stands (recordedAll history (c .counters) (batchOf (c .store) x (c .counters) (c .kinds) .verdicts))
-      (put (c .sessions) (sessionAfter (c .store) x (c .counters) (c .kinds))) (storeAfter (c .store) x (c .counters) (c .kinds)) (slotOf (x .«receiving_index»))
+      (put (c .sessions) (sessionAfter (c .store) x (c .now) (c .counters) (c .kinds))) (storeAfter (c .store) x (c .counters) (c .kinds)) (slotOf (x .«receiving_index»))
   unfolding put
   judged-stands =
       rw (given .0)
-      (put-stands _ (c .sessions) (put (c .sessions) (sessionAfter (c .store) x (c .counters) (c .kinds))) (c .store) _ (x .«receiving_index» % 8)
-      (sessionAfter (c .store) x (c .counters) (c .kinds)) (live .eight) (live .size) (omega arith) refl
+      (put-stands _ (c .sessions) (put (c .sessions) (sessionAfter (c .store) x (c .now) (c .counters) (c .kinds))) (c .store) _ (x .«receiving_index» % 8)
+      (sessionAfter (c .store) x (c .now) (c .counters) (c .kinds)) (live .eight) (live .size) (omega arith) refl
       (stands-all history (slotWords (c .store) (slotOf (x .«receiving_index»))) _ begun (c .counters) (c .kinds)))
 
   pub batch-law : BatchLaw c history
   batch-law =
       let goes = receive-judged (c .sessions) (c .store) (c .index) (c .id) (c .now) (c .counters) (c .kinds) (c .verdicts) (c .skips) x (live .size) (live .batch) (live .found) in
       record {
-        session = sessionAfter (c .store) x (c .counters) (c .kinds);
+        session = sessionAfter (c .store) x (c .now) (c .counters) (c .kinds);
         progress = batchOf (c .store) x (c .counters) (c .kinds) .out;
         received = rw goes;
         judges = rw goes (given .0);

@@ -15,7 +15,7 @@ use Rattle.tunnel.specs.declared.answer.Answer.the-variants.{No, Done, NoAnswer
 use Rattle.tunnel.specs.declared.answer.Answer.{Answer}
 use Rattle.tunnel.specs.declared.control.Control.{Control}
 use Rattle.tunnel.specs.declared.control.Out.{Out}
-use Rattle.demands.proofs.Held.{Held, held-carried, Carried}
+use Rattle.demands.proofs.Held.{Past, Held, held-carried, Carried}
 use Rattle.demands.proofs.Moves.{carried-next}
 use Rattle.demands.proofs.Queued.{keepaliveIn, Queue, queue-push, queue-pop}
 use Rattle.demands.specs.Calls.{World}
@@ -31,8 +31,8 @@ use Rattle.sessions.specs.declared.session.Time.{Time}
 use Rattle.sessions.specs.declared.sessions.Missing.the-variants.{Refused, Count}
 use Rattle.sessions.specs.declared.sessions.Missing.{Missing}
 
--- after these insertions, with these histories, grants, grants of wakings and keepalives polled
-pub record Known (ins : List Insertion) (h : ℕ → List ℕ) (g k : List Grant) (polls : List PolledKeepalive) (c : Control) (store : List ℕ) : Type 0 where
+-- after these insertions, with these pasts, grants, grants of wakings and keepalives polled
+pub record Known (ins : List Insertion) (h : ℕ → Past) (g k : List Grant) (polls : List PolledKeepalive) (c : Control) (store : List ℕ) : Type 0 where
   pub held : Held ins h g (c .sessions) store
   pub queue : Queue k polls (c .events)
 
@@ -57,28 +57,28 @@ plain-of (Deadline time) e = record { granted = λ n w. refl; polled = refl; ung
 plain-of (Report count) e = record { granted = λ n w. refl; polled = refl; ungranted = λ r p. (let z : _≡_ {A = ℕ} 0 1 = cc in omega arith) }
 
 -- the same insertions, grants and keepalives, said otherwise
-pub known-as : (ins m : List Insertion) (h : ℕ → List ℕ) (g f k l : List Grant) (polls z : List PolledKeepalive) (c : Control) (store : List ℕ)
+pub known-as : (ins m : List Insertion) (h : ℕ → Past) (g f k l : List Grant) (polls z : List PolledKeepalive) (c : Control) (store : List ℕ)
     → m ≡ ins → f ≡ g → l ≡ k → z ≡ polls → Known ins h g k polls c store → Known m h f l z c store
 known-as ins m h g f k l polls z c store p q r o w = rw (p, q, r, o) w
 
 -- nothing more inserted, granted or polled
-pub known-same : (ins m : List Insertion) (h : ℕ → List ℕ) (g a k v : List Grant) (polls z : List PolledKeepalive) (c : Control) (store : List ℕ)
+pub known-same : (ins m : List Insertion) (h : ℕ → Past) (g a k v : List Grant) (polls z : List PolledKeepalive) (c : Control) (store : List ℕ)
     → m ≡ [] → a ≡ [] → v ≡ [] → z ≡ [] → Known ins h g k polls c store → Known (ins ++ m) h (g ++ (a ++ v)) (k ++ v) (polls ++ z) c store
 known-same ins m h g a k v polls z c store e p q r w =
     known-as ins _ h g _ k _ polls _ c store (rw e (append-nil ins)) (rw (p, q) (append-nil g)) (rw q (append-nil k)) (rw r (append-nil polls)) w
 
 -- what an operation that inserts, commits and grants nothing hands back
 pub record Idle (c : Control) (store : List ℕ) (out : Out) (left : List ℕ) : Type 0 where
-  pub known : (ins : List Insertion) (h : ℕ → List ℕ) (g k : List Grant) (polls : List PolledKeepalive) → Known ins h g k polls c store → Known ins h g k polls (out .control) left
+  pub known : (ins : List Insertion) (h : ℕ → Past) (g k : List Grant) (polls : List PolledKeepalive) → Known ins h g k polls c store → Known ins h g k polls (out .control) left
   pub plain : Plain (out .answer)
 
 -- slots carried on, and the ring as it was
-pub known-carried : (ins : List Insertion) (h : ℕ → List ℕ) (g k : List Grant) (polls : List PolledKeepalive) (c d : Control) (store left : List ℕ)
+pub known-carried : (ins : List Insertion) (h : ℕ → Past) (g k : List Grant) (polls : List PolledKeepalive) (c d : Control) (store left : List ℕ)
     → Carried (c .sessions) (d .sessions) store left → d .events ≡ c .events → Known ins h g k polls c store → Known ins h g k polls d left
 known-carried ins h g k polls c d store left a e w = record { held = held-carried ins h g _ _ store left (w .held) a; queue = rw e (w .queue) }
 
 -- an event queued that is no keepalive
-known-queued : (ins : List Insertion) (h : ℕ → List ℕ) (g k : List Grant) (polls : List PolledKeepalive) (c : Control) (event : Event) (store : List ℕ)
+known-queued : (ins : List Insertion) (h : ℕ → Past) (g k : List Grant) (polls : List PolledKeepalive) (c : Control) (event : Event) (store : List ℕ)
     → keepaliveIn event ≡ [] → Known ins h g k polls c store → Known ins h g k polls (queueing c event) store
 unfolding queueing
 known-queued ins h g k polls c event store e w = record { held = w .held; queue = queue-push k polls (c .events) (w .queue) event e }
@@ -88,7 +88,7 @@ unfolding polledBy caseAnswer caseEvent
 established-none a b = refl
 
 -- the first session confirmed
-pub known-confirmed : (ins : List Insertion) (h : ℕ → List ℕ) (g k : List Grant) (polls : List PolledKeepalive) (c : Control) (started now : ℕ) (store : List ℕ)
+pub known-confirmed : (ins : List Insertion) (h : ℕ → Past) (g k : List Grant) (polls : List PolledKeepalive) (c : Control) (started now : ℕ) (store : List ℕ)
     → Known ins h g k polls c store → Known ins h g k polls (confirmFirstSession c started now) store
 unfolding confirmFirstSession
 known-confirmed ins h g k polls c started now store w =
@@ -147,7 +147,7 @@ module _ (c : Control) (store : List ℕ) where
   idle-cookie receiver outcome now = of-choice (λ (o : Out). Idle c store o store) _ _ _ (idle-refused 11) (of-cookie _)
 
   -- the oldest event, polled
-  pub known-event : (ins : List Insertion) (h : ℕ → List ℕ) (g k : List Grant) (polls : List PolledKeepalive) → Known ins h g k polls c store
+  pub known-event : (ins : List Insertion) (h : ℕ → Past) (g k : List Grant) (polls : List PolledKeepalive) → Known ins h g k polls c store
       → Known ins h g k (polls ++ polledBy (pollEvent c .answer)) (pollEvent c .control) store
   unfolding pollEvent
   known-event ins h g k polls w = record { held = w .held; queue = queue-pop k polls (c .events) (w .queue) }

@@ -12,6 +12,7 @@ pub mod Inserting
 pub mod Judged
 pub mod Judging
 pub mod Known
+pub mod LastHeard
 pub mod Missing
 pub mod Moves
 pub mod Peers

@@ -17,7 +17,7 @@ use Rattle.tunnel.specs.declared.answer.Answer.{Answer}
 use Rattle.tunnel.specs.declared.answer.Answer.the-variants.{Report}
 use Rattle.demands.proofs.After.{known-run}
 use Rattle.demands.proofs.Grown.{sound-after, sound-created}
-use Rattle.demands.proofs.Held.{SlotHeld}
+use Rattle.demands.proofs.Held.{Past, SlotHeld}
 use Rattle.demands.proofs.Known.{Known}
 use Rattle.demands.specs.Calls.Call.{missing}
 use Rattle.demands.specs.Calls.{World, step, after, created}
@@ -80,7 +80,7 @@ uncommitted-none : (history : List ℕ) → history ≡ [] → uncommitted histo
 unfolding expected
 uncommitted-none history e = omega (arith, uncommitted-rest history, ap expected e)
 
-module _ (w : World) (ins : List Insertion) (h : ℕ → List ℕ) (g k : List Grant) (polls : List PolledKeepalive)
+module _ (w : World) (ins : List Insertion) (h : ℕ → Past) (g k : List Grant) (polls : List PolledKeepalive)
     (y : Known ins h g k polls (w .tunnel .control) (w .store)) (sound : Sound (w .tunnel)) where
   abbrev s : Sessions
   s = w .tunnel .control .sessions
@@ -108,35 +108,35 @@ module _ (w : World) (ins : List Insertion) (h : ℕ → List ℕ) (g k : List G
     unfolding get inSlotOf caseFound choose
     found = rw (its .placed, filled, eq-eqb (x .«receiving_index») (x .«receiving_index») refl)
 
-    counts : CountLaw (h (x .id)) (slotWords (w .store) slot) (x .next)
-    counts = count-law (h (x .id)) (slotWords (w .store) slot) (x .next) (its .stands)
+    counts : CountLaw (h (x .id) .history) (slotWords (w .store) slot) (x .next)
+    counts = count-law (h (x .id) .history) (slotWords (w .store) slot) (x .next) (its .stands)
 
-    missed : sessions.missing s (w .store) (x .«receiving_index») ≡ Count (uncommitted (h (x .id)))
+    missed : sessions.missing s (w .store) (x .«receiving_index») ≡ Count (uncommitted (h (x .id) .history))
     unfolding sessions.missing caseFound choose
     missed = rw (eq-eqb (length (w .store)) 1024 (y .held .size), found, its .placed) (ap Count (counts .counts))
 
-    reported : step w (missing (x .«receiving_index»)) .answer ≡ Report (uncommitted (h (x .id)))
+    reported : step w (missing (x .«receiving_index»)) .answer ≡ Report (uncommitted (h (x .id) .history))
     unfolding step callMissing timeless settled missingReport caseMissing choose
     reported = rw (passes, missed)
 
     abbrev answer : Answer
     answer = step w (missing (x .«receiving_index»)) .answer
 
-    value : valuesOf answer ≡ uncommitted (h (x .id)) ∷ []
+    value : valuesOf answer ≡ uncommitted (h (x .id) .history) ∷ []
     unfolding valuesOf
     value = rw reported refl
 
     -- what that says
-    says : ReportLaw (h (x .id)) answer
+    says : ReportLaw (h (x .id) .history) answer
     unfolding numberOf
     says =
         record {
           good = rw reported refl;
           counts = value;
           together = λ count e.
-              (let same : count ≡ uncommitted (h (x .id)) = ap (λ (l : List ℕ). getD l 0 0) (sym e ∙ value) in
+              (let same : count ≡ uncommitted (h (x .id) .history) = ap (λ (l : List ℕ). getD l 0 0) (sym e ∙ value) in
               omega (arith, same, counts .counts, counts .together, ap (λ (n : ℕ). min n 8192) (its .stands .expects)));
-          fresh = λ e. value ∙ ap (λ (n : ℕ). n ∷ []) (uncommitted-none (h (x .id)) e);
+          fresh = λ e. value ∙ ap (λ (n : ℕ). n ∷ []) (uncommitted-none (h (x .id) .history) e);
         }
 
 pub missing-report : MissingReport

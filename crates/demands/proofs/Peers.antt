@@ -7,7 +7,7 @@ use native.Mathlib.Omega.{arith}
 use Rattle.base.proofs.Choice.{of-choice}
 use Rattle.demands.proofs.Granting.Sends.{none, some}
 use Rattle.demands.proofs.Granting.{Sends, sends-some}
-use Rattle.demands.proofs.Held.{insertionAt}
+use Rattle.demands.proofs.Held.{Past, insertionAt}
 use Rattle.demands.proofs.Known.{Known}
 use Rattle.demands.proofs.Queued.{keepaliveIn, put-none}
 use Rattle.demands.proofs.Sendable.{current-message}
@@ -28,7 +28,7 @@ use Rattle.tunnel.specs.declared.control.Out.{Out}
 use Rattle.tunnel.specs.declared.event.Event.the-variants.{Empty, SendKeepalive}
 use Rattle.tunnel.specs.declared.tunnel.Answered.{Answered}
 
-module _ (w : World) (ins : List Insertion) (h : ℕ → List ℕ) (g k : List Grant) (polls : List PolledKeepalive)
+module _ (w : World) (ins : List Insertion) (h : ℕ → Past) (g k : List Grant) (polls : List PolledKeepalive)
     (y : Known ins h g k polls (w .tunnel .control) (w .store)) where
   abbrev pub Whose : ℕ → Type 0
   Whose peer = (session : Session) × (currentIn w ≡ Got session) × (insertionAt ins (session .id) .peer ≡ peer)

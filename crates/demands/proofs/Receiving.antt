@@ -12,6 +12,7 @@ use Rattle.tunnel.specs.Control.{refuse, done, expiredControl}
 use Rattle.tunnel.specs.Decapsulate.{commitDecapsulate}
 use Rattle.tunnel.specs.declared.answer.Answer.the-variants.{Done}
 use Rattle.tunnel.specs.declared.control.Out.{Out}
+use Rattle.demands.proofs.Held.{Past}
 use Rattle.demands.proofs.After.{known-run}
 use Rattle.demands.proofs.Gated.{gate-open, expired-control, control-alive}
 use Rattle.demands.proofs.Grown.{grown}
@@ -60,7 +61,7 @@ module _ (store counters kinds verdicts skips : List ℕ) where
   )
 
 -- a live batch
-module _ (w : World) (u : undamaged (w .tunnel) ≡ true) (ins : List Insertion) (h : ℕ → List ℕ) (g k : List Grant) (polls : List PolledKeepalive)
+module _ (w : World) (u : undamaged (w .tunnel) ≡ true) (ins : List Insertion) (h : ℕ → Past) (g k : List Grant) (polls : List PolledKeepalive)
     (y : Known ins h g k polls (w .tunnel .control) (w .store)) (b : Batch) (slot : ℕ) (live : Live w b slot) where
   abbrev s : Sessions
   s = w .tunnel .control .sessions
@@ -109,7 +110,7 @@ module _ (w : World) (u : undamaged (w .tunnel) ≡ true) (ins : List Insertion)
         skips = b .skips;
       }
 
-  law : BatchLaw call (h (b .id))
+  law : BatchLaw call (h (b .id) .history)
   law = batch-judged ins h g s (w .store) (y .held) (b .index) (b .id) (b .now) (b .counters) (b .kinds) (b .verdicts) (b .skips) (slotAt s slot) fit its
 
   -- what the call hands back
@@ -120,11 +121,11 @@ module _ (w : World) (u : undamaged (w .tunnel) ≡ true) (ins : List Insertion)
   unfolding commitDecapsulate caseReceived done choose
   answer-is = rw (alive, law .received)
 
-  list-is : out .verdicts ≡ verdictsOn (h (b .id)) (b .counters) (b .kinds)
+  list-is : out .verdicts ≡ verdictsOn (h (b .id) .history) (b .counters) (b .kinds)
   unfolding commitDecapsulate choose
   list-is = rw alive (law .judges)
 
-  skip-list-is : out .skips ≡ skipsOn (h (b .id)) (b .counters) (b .kinds)
+  skip-list-is : out .skips ≡ skipsOn (h (b .id) .history) (b .counters) (b .kinds)
   unfolding commitDecapsulate choose
   skip-list-is = rw alive (law .skips)
 
@@ -132,24 +133,24 @@ module _ (w : World) (u : undamaged (w .tunnel) ≡ true) (ins : List Insertion)
   unfolding step callReceive timedBatch timed settled choose numberOf
   good = rw (passes, answer-is) refl
 
-  verdicts-are : step w (receiving b) .verdicts ≡ verdictsOn (h (b .id)) (b .counters) (b .kinds)
+  verdicts-are : step w (receiving b) .verdicts ≡ verdictsOn (h (b .id) .history) (b .counters) (b .kinds)
   unfolding step callReceive timedBatch kept choose
   verdicts-are = rw passes list-is
 
-  skips-are : step w (receiving b) .skips ≡ skipsOn (h (b .id)) (b .counters) (b .kinds)
+  skips-are : step w (receiving b) .skips ≡ skipsOn (h (b .id) .history) (b .counters) (b .kinds)
   unfolding step callReceive timedBatch kept choose
   skips-are = rw passes skip-list-is
 
   long : length (step w (receiving b) .verdicts) ≡ length (b .counters)
-  long = ap length verdicts-are ∙ long-each _ (h (b .id)) (b .counters) (b .kinds) (live .kinds-long)
+  long = ap length verdicts-are ∙ long-each _ (h (b .id) .history) (b .counters) (b .kinds) (live .kinds-long)
 
   skips-long : length (step w (receiving b) .skips) ≡ length (b .counters)
-  skips-long = ap length skips-are ∙ long-each _ (h (b .id)) (b .counters) (b .kinds) (live .kinds-long)
+  skips-long = ap length skips-are ∙ long-each _ (h (b .id) .history) (b .counters) (b .kinds) (live .kinds-long)
 
   judges : (i : ℕ) → i < length (b .counters)
-      → Judges (recordedAll (h (b .id)) (take i (b .counters)) (take i (step w (receiving b) .verdicts))) (getD (b .counters) i 0) (getD (b .kinds) i 0)
+      → Judges (recordedAll (h (b .id) .history) (take i (b .counters)) (take i (step w (receiving b) .verdicts))) (getD (b .counters) i 0) (getD (b .kinds) i 0)
       (getD (step w (receiving b) .verdicts) i 0) (getD (step w (receiving b) .skips) i 0)
-  judges i l = rw (verdicts-are, skips-are) (each-verdict i (h (b .id)) (b .counters) (b .kinds) (live .kinds-long) l)
+  judges i l = rw (verdicts-are, skips-are) (each-verdict i (h (b .id) .history) (b .counters) (b .kinds) (live .kinds-long) l)
 
 pub receiving-law : Receiving
 receiving-law c good-creation calls few b slot live =

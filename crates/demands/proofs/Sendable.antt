@@ -10,7 +10,7 @@ use Rattle.base.specs.Choice.{choose}
 use Rattle.base.proofs.Choice.{known-choice}
 use Rattle.base.proofs.Counting.{length-upFrom}
 use Rattle.demands.proofs.Granting.{reserved}
-use Rattle.demands.proofs.Held.{messageIn, insertionAt, SlotHeld, Held, held-found}
+use Rattle.demands.proofs.Held.{Past, messageIn, insertionAt, SlotHeld, Held, held-found}
 use Rattle.demands.specs.Made.{Insertion}
 use Rattle.demands.specs.Sending.{Grant, countersOf}
 use Rattle.sessions.proofs.Laws.{lookup-law, reserve-law}
@@ -35,7 +35,7 @@ use Rattle.tunnel.specs.declared.control.Control.{Control}
 use Rattle.tunnel.specs.declared.control.Out.{Out}
 
 -- what is known of the current session
-module _ (ins : List Insertion) (h : ℕ → List ℕ) (g : List Grant) (s : Sessions) (store : List ℕ) (w : Held ins h g s store) (x : Session)
+module _ (ins : List Insertion) (h : ℕ → Past) (g : List Grant) (s : Sessions) (store : List ℕ) (w : Held ins h g s store) (x : Session)
     (current : currentOf s ≡ Got x) where
   its-slot : SlotHeld ins h g (slotOf (x .«receiving_index»)) x (slotWords store (slotOf (x .«receiving_index»)))
   its-slot = held-found ins h g s store w (x .«receiving_index») x (lookup-law s .current x current)

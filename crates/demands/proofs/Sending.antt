@@ -10,7 +10,7 @@ use lib.ListN.{length, getD}
 use borrow.Author.Tests.{ne-eqb}
 use Rattle.base.proofs.Counting.{length-upFrom, upFrom-at}
 use Rattle.base.specs.Lists.{upFrom}
-use Rattle.demands.proofs.After.{known-run}
+use Rattle.demands.proofs.After.{pastOf, known-run}
 use Rattle.demands.proofs.Gated.{gate-open, timed-open, alive-test, ended-test, eleven-ended, ended-eleven}
 use Rattle.demands.proofs.Grown.{grown, none-current}
 use Rattle.demands.proofs.Held.{Runs, messageIn}
@@ -22,7 +22,6 @@ use Rattle.demands.proofs.Sendable.{current-message, current-counter, M
 use Rattle.demands.specs.Calls.Call.{send}
 use Rattle.demands.specs.Calls.{Call, World, step, Creation, created, Good, Expired}
 use Rattle.demands.specs.Made.{Insertion, inserted, insertions, messageOf}
-use Rattle.demands.specs.Receiving.{historyOf}
 use Rattle.demands.specs.Sending.{currentIn, wokenGrants, grants, polled, worldAfter, madeBy, grantedTo, CanSend, sendAfter, Sending}
 use Rattle.demands.specs.Wakings.{Ran, ranNew, ranAfter}
 use Rattle.sessions.proofs.Laws.{lookup-law}
@@ -80,7 +79,7 @@ module _ (c : Creation) (good : Good c) (calls : List Call) (few : insertions (m
   abbrev here : World
   here = worldAfter c calls
 
-  known : Known (inserted (madeBy c calls)) (λ id. historyOf id (created c) calls) (grants (madeBy c calls)) (wokenGrants (madeBy c calls))
+  known : Known (inserted (madeBy c calls)) (λ id. pastOf id (created c) calls) (grants (madeBy c calls)) (wokenGrants (madeBy c calls))
       (polled (madeBy c calls)) (here .tunnel .control) (here .store)
   known = known-run c good calls few
 

@@ -18,7 +18,7 @@ use Rattle.tunnel.specs.declared.control.Control.{Control}
 use Rattle.tunnel.specs.declared.control.Out.{Out}
 use Rattle.demands.proofs.Granting.Sends.{none, some}
 use Rattle.demands.proofs.Granting.{Sends, sends-some}
-use Rattle.demands.proofs.Held.{SlotHeld}
+use Rattle.demands.proofs.Held.{Past, SlotHeld}
 use Rattle.demands.proofs.Inserting.Inserts.{nothing, responds, completes}
 use Rattle.demands.proofs.Inserting.{Inserts, inserts-initiation, inserts-response}
 use Rattle.demands.proofs.Judging.Judged.{turned, taken}
@@ -30,6 +30,7 @@ use Rattle.demands.proofs.Waked.{Waked, From, woken}
 use Rattle.demands.specs.Calls.Call.{start, restart, send, receive, look, initiation, response, cookie, timeout, event, deadline, missing}
 use Rattle.demands.specs.Calls.{Call, World, Reply, stored, batched, step}
 use Rattle.demands.specs.Made.{caseBatch, caseWaking, caseMessage, caseAnswer, Insertion, insertion, insertionBy}
+use Rattle.demands.specs.LastHeard.{hearing}
 use Rattle.demands.specs.Receiving.{committing}
 use Rattle.demands.specs.Sending.{Grant, granting, currentIn, putLast, keepaliveBy, wokenGrant, answeredGrant, PolledKeepalive, polledBy}
 use Rattle.tunnel.specs.Cases.{caseEvent}
@@ -38,9 +39,12 @@ use Rattle.tunnel.specs.declared.event.Event.the-variants.{Empty, SendKeepalive
 use Rattle.tunnel.specs.declared.event.Event.{Event}
 use Rattle.demands.specs.History.{recordedAll}
 use Rattle.sessions.specs.Cases.{caseFound}
+use Rattle.sessions.specs.Laws.{commits}
 use Rattle.sessions.specs.Sessions.{currentOf}
 use Rattle.sessions.specs.Batch.{Batched}
 use Rattle.sessions.specs.declared.session.Session.{Session}
+use Rattle.sessions.specs.declared.session.Time.the-variants.{At}
+use Rattle.sessions.specs.declared.session.Time.{Time}
 use Rattle.sessions.specs.declared.sessions.Found.the-variants.{Got}
 use Rattle.tunnel.proofs.Laws.{gate-law, response-law}
 use Rattle.tunnel.specs.Arguments.{initiationOutcome, openingOutcome}
@@ -49,10 +53,18 @@ use Rattle.tunnel.specs.Tunnel.{Called, gate, refused, settled, timed, timeless
 use Rattle.tunnel.specs.declared.tunnel.Answered.{Answered}
 use Rattle.tunnel.specs.HandleTimeout.{handleTimeout}
 
+-- a session's past with a call
+abbrev passing : ℕ → Past → Call → Reply → Past
+passing id past call reply = record { history = committing id (past .history) call reply; heard = hearing id (past .heard) call reply }
+
+past-is : (past : Past) (history : List ℕ) (heard : Time) → history ≡ past .history → heard ≡ past .heard
+    → _≡_ {A = Past} (record { history = history; heard = heard }) past
+past-is past history heard e f = rw (e, f) refl
+
 -- what is known after a call
-abbrev pub Next : (ins : List Insertion) (h : ℕ → List ℕ) (g k : List Grant) (polls : List PolledKeepalive) → World → Call → Reply → Type 0
+abbrev pub Next : (ins : List Insertion) (h : ℕ → Past) (g k : List Grant) (polls : List PolledKeepalive) → World → Call → Reply → Type 0
 Next ins h g k polls w call reply =
-    Known (ins ++ insertionBy call (reply .answer)) (λ id. committing id (h id) call reply)
+    Known (ins ++ insertionBy call (reply .answer)) (λ id. passing id (h id) call reply)
     (g ++ (answeredGrant (length ins) w (reply .answer) ++ wokenGrant w call reply))
     (k ++ wokenGrant w call reply)
     (polls ++ polledBy (reply .answer))
@@ -60,11 +72,11 @@ Next ins h g k polls w call reply =
     (reply .world .store)
 
 -- the frames of operations that insert, commit and grant nothing
-record Quiet (ins : List Insertion) (h : ℕ → List ℕ) (g k : List Grant) (polls : List PolledKeepalive) (store : List ℕ) (a : Answered) : Type 0 where
+record Quiet (ins : List Insertion) (h : ℕ → Past) (g k : List Grant) (polls : List PolledKeepalive) (store : List ℕ) (a : Answered) : Type 0 where
   known : Known ins h g k polls (a .tunnel .control) store
   plain : Plain (a .answer)
 
-module _ (ins : List Insertion) (h : ℕ → List ℕ) (g k : List Grant) (polls : List PolledKeepalive) (w : World)
+module _ (ins : List Insertion) (h : ℕ → Past) (g k : List Grant) (polls : List PolledKeepalive) (w : World)
     (y : Known ins h g k polls (w .tunnel .control) (w .store)) where
   turned-down : (number : ℕ) → Quiet ins h g k polls (w .store) (refused (w .tunnel) number)
   unfolding refused refuse
@@ -94,29 +106,29 @@ module _ (ins : List Insertion) (h : ℕ → List ℕ) (g k : List Grant) (polls
   next-quiet m a e q = known-same ins m h g _ k [] polls _ (a .tunnel .control) (w .store) e (q .plain .granted (length ins) w) refl (q .plain .polled) (q .known)
 
   next-start : (now : ℕ) → Next ins h g k polls w (start now) (step w (start now))
-  unfolding step callStart committing caseBatch wokenGrant caseWaking insertionBy caseMessage
+  unfolding step callStart committing hearing caseBatch wokenGrant caseWaking insertionBy caseMessage
   next-start now = next-quiet _ _ (same-choice _ []) (quiet-timed _ now _ (idle-start (w .tunnel .control) (w .store) now))
 
   next-restart : (now : ℕ) → Next ins h g k polls w (restart now) (step w (restart now))
-  unfolding step callRestart committing caseBatch wokenGrant caseWaking insertionBy caseMessage
+  unfolding step callRestart committing hearing caseBatch wokenGrant caseWaking insertionBy caseMessage
   next-restart now = next-quiet _ _ (same-choice _ []) (quiet-timed _ now _ (idle-restart (w .tunnel .control) (w .store) now))
 
   next-look : (index counter now : ℕ) → Next ins h g k polls w (look index counter now) (step w (look index counter now))
-  unfolding step callLook committing caseBatch wokenGrant caseWaking insertionBy caseMessage
+  unfolding step callLook committing hearing caseBatch wokenGrant caseWaking insertionBy caseMessage
   next-look index counter now =
       next-quiet _ _ (same-choice _ []) (quiet-timed _ now _ (idle-look (w .tunnel .control) (w .store) index counter now))
 
   next-cookie : (receiver outcome now : ℕ) → Next ins h g k polls w (cookie receiver outcome now) (step w (cookie receiver outcome now))
-  unfolding step callCookie committing caseBatch wokenGrant caseWaking insertionBy caseMessage
+  unfolding step callCookie committing hearing caseBatch wokenGrant caseWaking insertionBy caseMessage
   next-cookie receiver outcome now =
       next-quiet _ _ (same-choice _ []) (quiet-timed _ now _ (idle-cookie (w .tunnel .control) (w .store) receiver _ now))
 
   next-deadline : Next ins h g k polls w deadline (step w deadline)
-  unfolding step callDeadline committing caseBatch wokenGrant caseWaking insertionBy caseMessage
+  unfolding step callDeadline committing hearing caseBatch wokenGrant caseWaking insertionBy caseMessage
   next-deadline = next-quiet _ _ (same-choice _ []) (quiet-timeless _ _ (idle-deadline (w .tunnel .control) (w .store) _))
 
   next-missing : (index : ℕ) → Next ins h g k polls w (missing index) (step w (missing index))
-  unfolding step callMissing committing caseBatch wokenGrant caseWaking insertionBy caseMessage
+  unfolding step callMissing committing hearing caseBatch wokenGrant caseWaking insertionBy caseMessage
   next-missing index = next-quiet _ _ (same-choice _ []) (quiet-timeless _ _ (idle-missing (w .tunnel .control) (w .store) index))
 
   -- the oldest event
@@ -126,7 +138,7 @@ module _ (ins : List Insertion) (h : ℕ → List ℕ) (g k : List Grant) (polls
       (append-nil k) refl (known-event (w .tunnel .control) (w .store) ins h g k polls y)
 
   next-event : Next ins h g k polls w event (step w event)
-  unfolding step callEvent timeless settled committing caseBatch wokenGrant caseWaking insertionBy caseMessage
+  unfolding step callEvent timeless settled committing hearing caseBatch wokenGrant caseWaking insertionBy caseMessage
   next-event =
       of-choice (λ (a : Answered). Then (choose (eqb (numberOf (a .answer)) 0) [] []) (a .answer) (a .tunnel .control) (w .store)) _ _ _
       (of-event _ (same-choice _ [])) (next-quiet _ _ (same-choice _ []) (turned-down _))
@@ -141,13 +153,13 @@ module _ (ins : List Insertion) (h : ℕ → List ℕ) (g k : List Grant) (polls
       (v .known ins h g k polls y)
 
   next-send : (count now : ℕ) → Next ins h g k polls w (send count now) (step w (send count now))
-  unfolding step callSend timed settled committing caseBatch wokenGrant caseWaking insertionBy caseMessage
+  unfolding step callSend timed settled committing hearing caseBatch wokenGrant caseWaking insertionBy caseMessage
   next-send count now =
       of-choice (λ (a : Answered). Then (choose (eqb (numberOf (a .answer)) 0) [] []) (a .answer) (a .tunnel .control) (w .store)) _ _ _
       (of-send _ _ (same-choice _ []) (sends-some (w .tunnel .control) (w .store) count now)) (next-quiet _ _ (same-choice _ []) (turned-down _))
 
   -- a batch
-  pointwise : (i : ℕ → List ℕ) (c : Control) (store : List ℕ) → ((id : ℕ) → i id ≡ h id) → Known ins h g k polls c store
+  pointwise : (i : ℕ → Past) (c : Control) (store : List ℕ) → ((id : ℕ) → i id ≡ h id) → Known ins h g k polls c store
       → Known ins i g k polls c store
   pointwise i c store e v =
       record {
@@ -157,7 +169,7 @@ module _ (ins : List Insertion) (h : ℕ → List ℕ) (g k : List Grant) (polls
           count = v .held .count;
           slots = λ j low f.
               (let s : SlotHeld ins h g j _ _ = v .held .slots j low f in
-              record { placed = s .placed; named = s .named; message = s .message; stands = rw (e _) (s .stands); granted = s .granted });
+              record { placed = s .placed; named = s .named; message = s .message; stands = rw (e _) (s .stands); heard = rw (e _) (s .heard); granted = s .granted });
           apart = v .held .apart;
           unborn = λ id l. e id ∙ v .held .unborn id l;
           ungranted = v .held .ungranted;
@@ -173,24 +185,29 @@ module _ (ins : List Insertion) (h : ℕ → List ℕ) (g k : List Grant) (polls
     -- turned down
     next-turned : (reply : Reply) (number : ℕ) → reply .answer ≡ No number → (number ≡ 0 → ⊥)
         → Known ins h g k polls (reply .world .tunnel .control) (reply .world .store) → Next ins h g k polls w batch reply
-    unfolding committing caseBatch wokenGrant caseWaking numberOf insertionBy caseMessage answeredGrant polledBy caseAnswer
+    unfolding committing hearing caseBatch wokenGrant caseWaking numberOf insertionBy caseMessage answeredGrant polledBy caseAnswer
     next-turned reply number e d v =
         known-as ins _ _ g _ k _ polls _ _ _ (none-more _) (rw e (append-nil g)) (append-nil k)
         (rw e (append-nil polls))
-        (pointwise _ _ _ (λ y. of-choice (λ (l : List ℕ). l ≡ h y) _ _ _ (rw e (sym (no-eq number 0 (h y) _ _ d refl))) refl) v)
+        (pointwise _ _ _ (λ y. past-is (h y) _ _
+        (of-choice (λ (l : List ℕ). l ≡ h y .history) _ _ _ (rw e (sym (no-eq number 0 (h y .history) _ _ d refl))) refl)
+        (of-choice (λ (l : Time). l ≡ h y .heard) _ _ _ (rw e (sym (no-eq number 0 (h y .heard) _ _ d refl))) refl)) v)
 
     -- judged
     next-taken : (reply : Reply) → reply .answer ≡ Done
-        → ((i : ℕ → List ℕ) → i id ≡ recordedAll (h id) counters (reply .verdicts) → ((z : ℕ) → (z ≡ id → ⊥) → i z ≡ h z)
+        → ((i : ℕ → Past) → i id ≡ record { history = recordedAll (h id .history) counters (reply .verdicts); heard = choose (commits (reply .verdicts)) (At now) (h id .heard) }
+        → ((z : ℕ) → (z ≡ id → ⊥) → i z ≡ h z)
         → Known ins i g k polls (reply .world .tunnel .control) (reply .world .store))
         → Next ins h g k polls w batch reply
-    unfolding committing caseBatch wokenGrant caseWaking numberOf insertionBy caseMessage answeredGrant polledBy caseAnswer
+    unfolding committing hearing caseBatch wokenGrant caseWaking numberOf insertionBy caseMessage answeredGrant polledBy caseAnswer
     next-taken reply e v =
         known-as ins _ _ g _ k _ polls _ _ _ (none-more _) (rw e (append-nil g)) (append-nil k)
         (rw e (append-nil polls))
-        (v _ (sym (yes-eq id id _ _ _ refl (rw e (yes-eq 0 0 _ _ _ refl refl)))) (λ z d. sym (no-eq id z _ _ _ (λ q. d (sym q)) refl)))
+        (v _
+        (past-is _ _ _ (sym (yes-eq id id _ _ _ refl (rw e (yes-eq 0 0 _ _ _ refl refl)))) (sym (yes-eq id id _ _ _ refl (rw e (yes-eq 0 0 _ _ _ refl refl)))))
+        (λ z d. past-is (h z) _ _ (sym (no-eq id z _ _ _ (λ q. d (sym q)) refl)) (sym (no-eq id z _ _ _ (λ q. d (sym q)) refl))))
 
-    of-batch : (b : Batched Out) → Judged (w .tunnel .control) (w .store) id counters b
+    of-batch : (b : Batched Out) → Judged (w .tunnel .control) (w .store) id now counters b
         → Next ins h g k polls w batch
         (record {
           world = record { tunnel = settled (w .tunnel) now (b .out) .tunnel; store = b .store };
@@ -212,7 +229,7 @@ module _ (ins : List Insertion) (h : ℕ → List ℕ) (g k : List Grant) (polls
           skips = choose (eqb number 0) (b .skips) skips;
         }
 
-    of-framed : (f : Bool) (number : ℕ) (b : Batched Out) → eqb number 0 ≡ f → Judged (w .tunnel .control) (w .store) id counters b
+    of-framed : (f : Bool) (number : ℕ) (b : Batched Out) → eqb number 0 ≡ f → Judged (w .tunnel .control) (w .store) id now counters b
         → Next ins h g k polls w batch (batched (framed number b))
     unfolding framed choose refused
     of-framed true number b e j = rw e (of-batch b j)
@@ -257,7 +274,7 @@ module _ (ins : List Insertion) (h : ℕ → List ℕ) (g k : List Grant) (polls
 
     next-waked : (reply : Reply) → Plain (reply .answer) → Waked (w .tunnel .control) (w .store) (reply .world .tunnel .control) (reply .world .store)
         → Next ins h g k polls w waking reply
-    unfolding committing caseBatch insertionBy caseMessage
+    unfolding committing hearing caseBatch insertionBy caseMessage
     next-waked reply p (silent v e) =
         known-same ins _ h g _ k _ polls _ _ _ (same-choice _ []) (p .granted (length ins) w) (ungranted reply Empty (put-none _ _ e) empty-none) (p .polled)
         (record { held = v ins h g (y .held); queue = rw e (y .queue) })
@@ -343,7 +360,7 @@ module _ (ins : List Insertion) (h : ℕ → List ℕ) (g k : List Grant) (polls
     next-initiation : (peer outcome : ℕ)
         → length ins + length (insertionBy (initiation peer outcome now) (step w (initiation peer outcome now) .answer)) < 2 ^ 64
         → Next ins h g k polls w (initiation peer outcome now) (step w (initiation peer outcome now))
-    unfolding step callInitiation timedTurn timed kept framed-turn committing caseBatch wokenGrant caseWaking insertionBy caseMessage
+    unfolding step callInitiation timedTurn timed kept framed-turn committing hearing caseBatch wokenGrant caseWaking insertionBy caseMessage
     next-initiation peer outcome few =
         of-inserted (insertion false peer now) _ (gate (w .tunnel) _ now) _ refl
         (λ z. inserts-initiation (w .tunnel .control) (w .store) peer (initiationOutcome outcome) now) few
@@ -351,7 +368,7 @@ module _ (ins : List Insertion) (h : ℕ → List ℕ) (g k : List Grant) (polls
     next-response : Sound (w .tunnel) → (receiver peer outcome : ℕ)
         → length ins + length (insertionBy (response receiver peer outcome now) (step w (response receiver peer outcome now) .answer)) < 2 ^ 64
         → Next ins h g k polls w (response receiver peer outcome now) (step w (response receiver peer outcome now))
-    unfolding step callResponse timedTurn timed kept framed-turn committing caseBatch wokenGrant caseWaking insertionBy caseMessage
+    unfolding step callResponse timedTurn timed kept framed-turn committing hearing caseBatch wokenGrant caseWaking insertionBy caseMessage
     next-response s receiver peer outcome few =
         of-inserted (insertion true peer now) _ (gate (w .tunnel) _ now) _ refl
         (λ z. inserts-response (w .tunnel .control) (w .store) receiver peer (openingOutcome outcome) now

@@ -21,7 +21,8 @@ use Rattle.tunnel.specs.declared.control.Out.{Out}
 use Rattle.demands.specs.Calls.Call.{start, restart, send, receive, look, initiation, response, cookie, timeout, event, deadline, missing}
 use Rattle.demands.specs.Calls.{Call, World, Reply, plain, stored, batched, step}
 use Rattle.demands.specs.Wakings.Alike.{equal, come}
-use Rattle.demands.specs.Wakings.{timeOf, NotEarlier, Alike, Same}
+use Rattle.sessions.specs.Sessions.{slotAt}
+use Rattle.demands.specs.Wakings.{HeardAlike, timeOf, NotEarlier, Alike, Same}
 use Rattle.tunnel.specs.RingBuffer.{ringIsEmpty}
 use Rattle.sessions.specs.Cases.{caseTime}
 use Rattle.sessions.specs.Batch.{Batched}
@@ -45,6 +46,11 @@ pub record TwinTunnels (latest : ℕ) (p w : Tunnel) : Type 0 where
 pub record Twins (latest : ℕ) (p w : World) : Type 0 where
   pub tunnels : TwinTunnels latest (p .tunnel) (w .tunnel)
   pub store : p .store ≡ w .store
+
+-- each slot of both was last heard at the same time
+heard-alike : {latest : ℕ} {p w : Tunnel} → TwinTunnels latest p w → (slot : ℕ) → slot < 8
+    → HeardAlike (slotAt (p .control .sessions) slot) (slotAt (w .control .sessions) slot)
+heard-alike h slot low = rw (h .control) (record { filled = refl; heard = λ f. refl })
 
 -- a call gives twins the same and leaves them twins
 pub record Pair (latest : ℕ) (p w : Reply) : Type 0 where
@@ -155,7 +161,7 @@ module _ {latest : ℕ} {p w : World} (h : Twins latest p w) (u : undamaged (p .
   plain-pair : (a b : Answered) → AnsweredAlike latest a b → Pair latest (plain (p .store) a) (plain (w .store) b)
   plain-pair a b k =
       record {
-        same = record { answers = equal-alike _ _ _ (k .answer); verdicts = refl; skips = refl; stores = h .store };
+        same = record { answers = equal-alike _ _ _ (k .answer); verdicts = refl; skips = refl; stores = h .store; heard = heard-alike (k .tunnels) };
         twins = record { tunnels = k .tunnels; store = h .store };
       }
 
@@ -166,7 +172,7 @@ module _ {latest : ℕ} {p w : World} (h : Twins latest p w) (u : undamaged (p .
       let k = timed-alike (h .tunnels) u v bad now l is (turn .out) (shall .out) b (ap (λ (x : Turn). x .out) e) in
       let s = kept-alike (h .tunnels) u v bad now l is (p .store) (turn .store) (w .store) (shall .store) b (h .store) (ap (λ (x : Turn). x .store) e) in
       record {
-        same = record { answers = equal-alike _ _ _ (k .answer); verdicts = refl; skips = refl; stores = s };
+        same = record { answers = equal-alike _ _ _ (k .answer); verdicts = refl; skips = refl; stores = s; heard = heard-alike (k .tunnels) };
         twins = record { tunnels = k .tunnels; store = s };
       }
 
@@ -179,7 +185,7 @@ module _ {latest : ℕ} {p w : World} (h : Twins latest p w) (u : undamaged (p .
       let z = kept-alike (h .tunnels) u v bad now l is verdicts (batch .verdicts) verdicts (shall .verdicts) b refl (ap (λ (x : Batched Out). x .verdicts) e) in
       let j = kept-alike (h .tunnels) u v bad now l is skips (batch .skips) skips (shall .skips) b refl (ap (λ (x : Batched Out). x .skips) e) in
       record {
-        same = record { answers = equal-alike _ _ _ (k .answer); verdicts = z; skips = j; stores = s };
+        same = record { answers = equal-alike _ _ _ (k .answer); verdicts = z; skips = j; stores = s; heard = heard-alike (k .tunnels) };
         twins = record { tunnels = k .tunnels; store = s };
       }
 
@@ -201,6 +207,7 @@ module _ {latest : ℕ} {p w : World} (h : Twins latest p w) (u : undamaged (p .
               verdicts = refl;
               skips = refl;
               stores = h .store;
+              heard = rw (deadline-still (p .tunnel) u, deadline-still (w .tunnel) v) (heard-alike (h .tunnels));
             };
         twins = record { tunnels = rw (deadline-still (p .tunnel) u, deadline-still (w .tunnel) v) (h .tunnels); store = h .store };
       }

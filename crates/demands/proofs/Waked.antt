@@ -15,7 +15,7 @@ use Rattle.tunnel.specs.declared.control.Control.{Control}
 use Rattle.tunnel.specs.declared.encapsulate.Encrypted.{Encrypted}
 use Rattle.demands.proofs.Granting.Encrypts.{skips, sends}
 use Rattle.demands.proofs.Granting.{Encrypts, encrypts}
-use Rattle.demands.proofs.Held.{Held, held-carried}
+use Rattle.demands.proofs.Held.{Past, Held, held-carried}
 use Rattle.demands.proofs.Known.{Known}
 use Rattle.demands.proofs.Moves.{carried-next, Thinned, thinned-expire, thinned-clear}
 use Rattle.demands.proofs.Queued.{keepaliveIn}
@@ -46,19 +46,19 @@ initiation-none local = record { granted = refl; grants = λ found. refl }
 module _ (c : Control) (store : List ℕ) where
   -- what a waking does: nothing to the ring, an event without a grant, or a keepalive that the current session grants
   pub data Waked (d : Control) (left : List ℕ) : Type 0 where
-    silent : ((ins : List Insertion) (h : ℕ → List ℕ) (g : List Grant) → Held ins h g (c .sessions) store → Held ins h g (d .sessions) left)
+    silent : ((ins : List Insertion) (h : ℕ → Past) (g : List Grant) → Held ins h g (c .sessions) store → Held ins h g (d .sessions) left)
         → d .events ≡ c .events → Waked d left
     queues : (event : Event) → Ungranted event
-        → ((ins : List Insertion) (h : ℕ → List ℕ) (g : List Grant) → Held ins h g (c .sessions) store → Held ins h g (d .sessions) left)
+        → ((ins : List Insertion) (h : ℕ → Past) (g : List Grant) → Held ins h g (c .sessions) store → Held ins h g (d .sessions) left)
         → d .events ≡ pushBack (c .events) event → Waked d left
     grants : (x : Session) (peer first : ℕ) → currentOf (c .sessions) ≡ Got x → x .«sending_index» ≡ peer
-        → ((ins : List Insertion) (h : ℕ → List ℕ) (g k : List Grant) (polls : List PolledKeepalive) → Known ins h g k polls c store
+        → ((ins : List Insertion) (h : ℕ → Past) (g k : List Grant) (polls : List PolledKeepalive) → Known ins h g k polls c store
         → Held ins h (g ++ granting (x .id) peer first 1 ∷ []) (d .sessions) left)
         → d .events ≡ pushBack (c .events) (SendKeepalive peer first) → Waked d left
 
   -- sessions, a ring and a store on the way, before anything is put into the ring
   pub record From (s : Sessions) (r : RingBuffer) (left : List ℕ) : Type 0 where
-    pub held : (ins : List Insertion) (h : ℕ → List ℕ) (g : List Grant) → Held ins h g (c .sessions) store → Held ins h g s left
+    pub held : (ins : List Insertion) (h : ℕ → Past) (g : List Grant) → Held ins h g (c .sessions) store → Held ins h g s left
     pub ring : r ≡ c .events
     pub current : (x : Session) → currentOf s ≡ Got x → currentOf (c .sessions) ≡ Got x
     pub eight : length (s .slots) ≡ 8

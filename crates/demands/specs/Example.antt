@@ -8,12 +8,15 @@ use lib.ListN.{take}
 use Rattle.tunnel.specs.declared.answer.Answer.the-variants.{Polled}
 use Rattle.demands.specs.Calls.Call.{start, send, receive, response, timeout, event, missing}
 use Rattle.demands.specs.Calls.{Call, World, step, after, Creation, created, Good}
+use Rattle.demands.specs.LastHeard.{heardOf}
 use Rattle.demands.specs.Made.{made, insertion, inserted, insertions}
+use Rattle.demands.specs.Missing.{slotAfter}
 use Rattle.demands.specs.Receiving.{historyOf, Batch, receiving, Live}
 use Rattle.demands.specs.Sending.{wokenGrants, granting, grants, countersOf, polling, polled, CanSend, sendAfter}
 use Rattle.tunnel.specs.Answer.{numberOf, valuesOf}
 use Rattle.tunnel.specs.declared.event.Event.the-variants.{SendKeepalive}
 use Rattle.base.specs.Lists.{zeros}
+use Rattle.sessions.specs.declared.session.Time.the-variants.{Never, At}
 
 -- index 256, no persistent keepalive, time 0
 unfoldable pub creation : Creation
@@ -77,3 +80,8 @@ pub record ExampleLaw : Type 0 where
   pub fresh : valuesOf (step (after (created creation) (take 2 calls)) (missing 257) .answer) ≡ 0 ∷ []
   pub young : valuesOf (step (after (created creation) (take 4 calls)) (missing 257) .answer) ≡ 4 ∷ []
   pub old : valuesOf (step here (missing 257) .answer) ≡ 8191 ∷ []
+  -- heard by no batch before the first, in the end by the one that jumped
+  pub unheard : heardOf 0 (created creation) (take 3 calls) ≡ Never
+  pub heardFirst : slotAfter creation (take 3 calls) 1 .«last_heard» ≡ 1000000
+  pub heard : heardOf 0 (created creation) calls ≡ At 4000000
+  pub heardLast : slotAfter creation calls 1 .«last_heard» ≡ 4000000

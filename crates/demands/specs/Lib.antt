@@ -3,6 +3,7 @@ pub mod Calls
 pub mod Example
 pub mod Grown
 pub mod History
+pub mod LastHeard
 pub mod Made
 pub mod Marked
 pub mod Missing

@@ -29,9 +29,9 @@ made w [] = []
 made w (call ∷ calls) = making w call ∷ made (step w call .world) calls
 
 module _ {A : Type 0} where
-  -- one value for each batch's session id and counters, one for every other call
-  unfoldable pub caseBatch : Call → (ℕ → List ℕ → A) → A → A
-  caseBatch (receive index id now counters kinds verdicts skips) f x = f id counters
+  -- one value for each batch's session id, time and counters, one for every other call
+  unfoldable pub caseBatch : Call → ((id now : ℕ) → List ℕ → A) → A → A
+  caseBatch (receive index id now counters kinds verdicts skips) f x = f id now counters
   caseBatch (start now) f x = x
   caseBatch (restart now) f x = x
   caseBatch (send count now) f x = x

@@ -18,7 +18,7 @@ use Rattle.window.specs.History.{member, expected, Skips}
 unfoldable pub committing : ℕ → List ℕ → Call → Reply → List ℕ
 committing id history call reply =
     caseBatch call
-    (λ named counters. choose (eqb named id) (choose (eqb (numberOf (reply .answer)) 0) (recordedAll history counters (reply .verdicts)) history) history)
+    (λ named now counters. choose (eqb named id) (choose (eqb (numberOf (reply .answer)) 0) (recordedAll history counters (reply .verdicts)) history) history)
     history
 
 -- a session's history with what calls committed there, the counter committed last in front

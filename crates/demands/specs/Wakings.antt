@@ -1,7 +1,7 @@
 -- Demand 3: extra wakings that come early change nothing. Two tunnels are created alike and given the same calls, one of them extra wakings among
 -- these; under three conditions every shared call gives both the same.
 use mathlib.Core.Path.{_≡_}
-use mathlib.Core.Bool.{Bool, false}
+use mathlib.Core.Bool.{Bool, true, false}
 use mathlib.Core.List.{List, [], _∷_, _++_}
 use mathlib.Core.Logic.{_⊎_}
 use Prim.Native.Nat.{ℕ, _≤_, _<_}
@@ -20,7 +20,7 @@ use Rattle.tunnel.specs.declared.control.Out.{Out}
 use Rattle.demands.specs.Calls.Call.{start, restart, send, receive, look, initiation, response, cookie, timeout, event, deadline, missing}
 use Rattle.demands.specs.Calls.{Call, World, Reply, step, after, Creation, created, Good, Expired}
 use Rattle.sessions.specs.Session.{timeLimit}
-use Rattle.sessions.specs.Sessions.{currentOf}
+use Rattle.sessions.specs.Sessions.{slotAt, currentOf}
 use Rattle.base.specs.Lists.{zeros}
 use Rattle.sessions.specs.declared.session.Session.{Session}
 use Rattle.sessions.specs.declared.session.Time.the-variants.{Never, At}
@@ -149,12 +149,20 @@ pub data Alike (latest : ℕ) : Answer → Answer → Type 0 where
   equal : (answer : Answer) → Alike latest answer answer
   come : (a b : ℕ) → a ≤ latest → b ≤ latest → Alike latest (Deadline (At a)) (Deadline (At b))
 
--- a call gives both tunnels the same answer, verdicts, skips and store; the latest time given is the woken tunnel's greatest time
+-- a slot of both tunnels: filled in both or in none, and where it is, last heard at the same time
+pub record HeardAlike (plain woken : Session) : Type 0 where
+  pub filled : plain .filled ≡ woken .filled
+  pub heard : woken .filled ≡ true → plain .«last_heard» ≡ woken .«last_heard»
+
+-- a call gives both tunnels the same answer, verdicts, skips and store, and leaves each slot last heard at the same time; the latest time given
+-- is the woken tunnel's greatest time
 pub record Same (plain woken : Reply) : Type 0 where
   pub answers : Alike (woken .world .tunnel .greatest) (plain .answer) (woken .answer)
   pub verdicts : plain .verdicts ≡ woken .verdicts
   pub skips : plain .skips ≡ woken .skips
   pub stores : plain .world .store ≡ woken .world .store
+  pub heard : (slot : ℕ) → slot < 8
+      → HeardAlike (slotAt (plain .world .tunnel .control .sessions) slot) (slotAt (woken .world .tunnel .control .sessions) slot)
 
 -- every shared call gives both tunnels the same
 abbrev pub Agree : (plain woken : Creation) → List Step → Type 0

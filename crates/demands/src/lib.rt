@@ -12,6 +12,7 @@ ghost use Rattle.demands.specs.BatchExample.{BatchExampleLaw};
 ghost use Rattle.demands.specs.Example.{ExampleLaw};
 ghost use Rattle.demands.specs.Grown.{Grown};
 ghost use Rattle.demands.specs.History.{VerdictLaw, BatchCall, BatchFor, BatchLaw, InsertedLaw, CountLaw};
+ghost use Rattle.demands.specs.LastHeard.{LastHeard};
 ghost use Rattle.demands.specs.Marked.{holdAll, marked};
 ghost use Rattle.demands.specs.Missing.{MissingReport, NoReport};
 ghost use Rattle.demands.specs.Receiving.{Receiving, OnlyLive};
@@ -77,6 +78,11 @@ pub fn missing_law()
 // And an index that no filled slot holds has no report.
 pub fn no_report_law()
     ensures { λ r. ⌜ NoReport ⌝ }
+{}
+
+// Demand 2, last heard: the time of the last commit.
+pub fn last_heard_law()
+    ensures { λ r. ⌜ LastHeard ⌝ }
 {}
 
 // There are calls of which demand 2's statements speak: a live session, a commit, a replay, a jump that clears the window, a keepalive.

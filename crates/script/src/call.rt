@@ -2,6 +2,7 @@
 use crate::line::HandshakeCall;
 use crate::line::Line;
 use crate::line::SessionCall;
+use sessions::session::Time;
 use tunnel::answer::Answer;
 use tunnel::tunnel::Answered;
 use tunnel::tunnel::Tunnel;
@@ -38,6 +39,21 @@ fn call_handshake(tunnel: Tunnel, call: HandshakeCall, store: &mut [u64]) -> Ans
     }
 }
 
+// Looks up when the session with an index was last heard; the time is answered as a deadline is.
+fn call_heard(tunnel: Tunnel, index: u32) -> Answered {
+    let sessions = tunnel.control.sessions;
+    match sessions.last_heard(index) {
+        Time::Never => Answered {
+            tunnel,
+            answer: Answer::No(12),
+        },
+        Time::At(time) => Answered {
+            tunnel,
+            answer: Answer::Deadline(Time::At(time)),
+        },
+    }
+}
+
 // Makes a call about the sessions, the timers and the events.
 fn call_session(tunnel: Tunnel, call: SessionCall, store: &mut [u64]) -> Answered {
     match call {
@@ -51,6 +67,7 @@ fn call_session(tunnel: Tunnel, call: SessionCall, store: &mut [u64]) -> Answere
         SessionCall::Event => return tunnel.poll_event(),
         SessionCall::Next => return tunnel.poll_timeout(),
         SessionCall::Missing { index } => return tunnel.missing(store, index),
+        SessionCall::Heard { index } => return call_heard(tunnel, index),
     }
 }
 

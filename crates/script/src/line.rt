@@ -49,6 +49,7 @@ pub enum SessionCall {
     Event,
     Next,
     Missing { index: u32 },
+    Heard { index: u32 },
 }
 
 // A line that was read: a call with its arguments, or none that can be read.
@@ -161,6 +162,7 @@ fn line_of(name: Name, n: Numbers, held: usize) -> Line {
         Name::Event => Line::Session(SessionCall::Event),
         Name::Next => Line::Session(SessionCall::Next),
         Name::Missing => Line::Session(SessionCall::Missing { index }),
+        Name::Heard => Line::Session(SessionCall::Heard { index }),
         Name::Split => Line::Split {
             peer: index,
             first: n.second,

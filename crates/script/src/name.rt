@@ -17,6 +17,7 @@ pub enum Name {
     Event,
     Next,
     Missing,
+    Heard,
     Split,
     Skips,
     Datagram,
@@ -93,6 +94,9 @@ fn question_name(word: &[u8]) -> Name {
     }
     if same(word, b"missing") {
         return Name::Missing;
+    }
+    if same(word, b"heard") {
+        return Name::Heard;
     }
     if same(word, b"split") {
         return Name::Split;

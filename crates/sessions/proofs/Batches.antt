@@ -25,9 +25,9 @@ use Rattle.sessions.specs.declared.sessions.Sessions.{Sessions}
 use Rattle.sessions.specs.Index.{slotOf}
 use Rattle.sessions.specs.Store.{slotWords, putSlot, Leaves}
 use Rattle.sessions.specs.Cases.{caseFound}
-use Rattle.sessions.specs.Batch.{known, fits, finishAll, receivingSession, receive, Batched, LeavesBatch, Message, finishReceivePacketData, finishAt}
+use Rattle.sessions.specs.Batch.{known, fits, finishAll, receivingSession, receive, Batched, LeavesBatch, Message, finishReceivePacketData, finishAt, hear, afterBatch}
 use Rattle.sessions.proofs.Words.{part-is, part-put, slot-long}
-use Rattle.sessions.specs.Session.{withReceivedData, withNext}
+use Rattle.sessions.specs.Session.{withReceivedData, withNext, withLastHeard}
 
 -- all kinds are known if those looked at are and the others are
 known-moved : (good unknown x : Bool) → choose good (choose unknown false x) false ≡ choose (choose unknown false good) x false
@@ -135,21 +135,32 @@ zero-there counters skips i h e = (omega (arith, h, e, length-set skips i 0), ge
 pub none-put : (skips : List ℕ) (i skipped : ℕ) → getD skips i 0 ≡ 0 → skipped ≡ 0 → skips ≡ set skips i skipped
 none-put skips i skipped h z = sym (ap (set skips i) (z ∙ sym h) ∙ set-getD skips i 0)
 
+-- a session heard, and one that is not
+module _ (s : Session) (accepted : Bool) (now : ℕ) where
+  pub heard : accepted ≡ true → withLastHeard s now ≡ hear s accepted now
+  unfolding choose
+  heard e = rw e refl
+
+  pub unheard : accepted ≡ false → s ≡ hear s accepted now
+  unfolding choose
+  unheard e = rw e refl
+
 -- the session after a batch, with data and without
 or-true : (b : Bool) → (b || true) ≡ true
 or-true true = refl
 or-true false = refl
 
-or-false : (b : Bool) → (b || false) ≡ b
+pub or-false : (b : Bool) → (b || false) ≡ b
 or-false true = refl
 or-false false = refl
 
-module _ (s : Session) (next : ℕ) (is : Bool) where
-  pub with-data : is ≡ true → withNext (withReceivedData s true) next ≡ withNext (withReceivedData s (s .«received_data» || is)) next
-  with-data e = rw (e, or-true (s .«received_data»)) refl
+module _ (s after : Session) (progress : Progress) (now : ℕ) where
+  pub with-data : progress .«data» ≡ true → after ≡ hear (withReceivedData (withNext s (progress .next)) true) (progress .accepted) now
+      → after ≡ afterBatch s progress now
+  with-data e h = h ∙ rw (e, or-true) refl
 
-  pub without-data : is ≡ false → withNext s next ≡ withNext (withReceivedData s (s .«received_data» || is)) next
-  without-data e = rw (e, or-false (s .«received_data»)) refl
+  pub without-data : progress .«data» ≡ false → after ≡ hear (withNext s (progress .next)) (progress .accepted) now → after ≡ afterBatch s progress now
+  without-data e h = h ∙ rw (e, or-false) refl
 
 -- what a batch comes to with verdicts and skips given before
 abbrev pub preceded : (verdicts skips : List ℕ) → Batched Progress → Batched Progress
@@ -235,7 +246,7 @@ module _ (s : Sessions) (store : List ℕ) (index id now : ℕ) (counters kinds 
           → found ≡ Got x → slot ≡ slotOf (x .«receiving_index») → start ≡ 128 * slot → end ≡ start + 128
           → LeavesBatch (finishAll (take (end - start) (drop start store)) (record { next = x .next; accepted = false; «data» = false }) counters kinds) progress last given passed
           → length last ≡ length (take (end - start) (drop start store))
-          → after ≡ withNext (withReceivedData x (x .«received_data» || progress .«data»)) (progress .next)
+          → after ≡ afterBatch x progress now
           → Receives (Judged after progress)
           (putMid start (end - start) store last) given passed
       unfolding receive caseFound choose

@@ -12,7 +12,7 @@ use Rattle.base.specs.Lists.{zeros}
 use Rattle.base.specs.Sums.{sum}
 use Rattle.window.specs.Window.{limit, bitAt, checkBit}
 use Rattle.sessions.specs.Batch.{receivingSession}
-use Rattle.sessions.specs.Laws.{SlotsApart, NextIndexLaw, EmptyLaw, LookupLaw, SlotLaw, WholeLaw, ExpiryLaw, FitsLaw, LookLaw, NextLaw, RejectedLaw, EmptyBatchLaw, ReserveLaw, SplitLaw, InSlot, MissingLaw, NoReportLaw, MissingExample, expects70, with70, store70}
+use Rattle.sessions.specs.Laws.{SlotsApart, NextIndexLaw, EmptyLaw, LookupLaw, SlotLaw, WholeLaw, ExpiryLaw, FitsLaw, LookLaw, NextLaw, RejectedLaw, EmptyBatchLaw, HeardLaw, ReserveLaw, SplitLaw, InSlot, MissingLaw, NoReportLaw, MissingExample, expects70, with70, store70}
 use Rattle.sessions.specs.declared.batch.Progress.{Progress}
 use Rattle.sessions.specs.Reservations.{granted, ReservationLaw}
 use Rattle.sessions.specs.Index.{slotOf}
@@ -24,6 +24,7 @@ use Rattle.sessions.specs.declared.session.Session.{Session}
 use Rattle.sessions.specs.declared.sessions.Sessions.{Sessions}
 use Rattle.sessions.proofs.Apart.{kept-insert, kept-expire}
 use Rattle.sessions.proofs.Indices.{first, takes-first, takes-second, other-slot, same-upper, goes-on-from}
+use Rattle.sessions.proofs.Heard.{heard-by, in-heard, none-heard}
 use Rattle.sessions.proofs.Lookups.{got-slot, current-slot, received-slot}
 use Rattle.sessions.proofs.Looks.{look-numbers}
 use Rattle.sessions.proofs.Loops.{expire-none}
@@ -84,6 +85,8 @@ lookup-law s =
       sends = may-sending s;
       receiving = received-slot s;
       receives = in-received s;
+      heard = in-heard s;
+      unheard = none-heard s;
     }
 
 -- words put into a slot
@@ -125,6 +128,14 @@ rejected-law s store index id now counters kinds verdicts skips =
 -- an empty batch
 pub empty-batch-law : (s : Sessions) (store : List ℕ) (index id now : ℕ) → EmptyBatchLaw s store index id now
 empty-batch-law s store index id now = empty-leaves s store index id now (eqb (length store) 1024) (receivingSession s index id now) refl refl
+
+-- when a session was last heard
+pub heard-law : (s : Sessions) (store : List ℕ) (index id now : ℕ) (counters kinds verdicts skips : List ℕ) → HeardLaw s store index id now counters kinds verdicts skips
+heard-law s store index id now counters kinds verdicts skips =
+    record {
+      committed = λ x p e c. heard-by s store index id now counters kinds verdicts skips x p e .committed c;
+      uncommitted = λ y x p i e c. heard-by s store index id now counters kinds verdicts skips x p e .uncommitted y i c;
+    }
 
 -- the counters that are left
 pub reserve-law : (s : Session) (len : ℕ) → ReserveLaw s len

@@ -1,5 +1,6 @@
 pub mod Apart
 pub mod Batches
+pub mod Heard
 pub mod Indices
 pub mod Laws
 pub mod Lookups

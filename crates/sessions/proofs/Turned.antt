@@ -10,11 +10,11 @@ use lib.ListN.{length, getD, take, drop, take-append-drop}
 use lib.Seq.{take-take, drop-drop, set-getD}
 use borrow.Author.Tests.{ltb-false, le-ltb, eq-eqb, eqb-true}
 use Rattle.base.specs.Choice.{choose}
-use Rattle.sessions.specs.Batch.{known, fits, finishAll, receivingSession, receive}
+use Rattle.sessions.specs.Batch.{known, fits, finishAll, afterBatch, receivingSession, receive}
 use Rattle.sessions.specs.Cases.{caseFound}
 use Rattle.sessions.specs.Index.{slotOf}
 use Rattle.sessions.specs.Laws.{IsBatch, EmptyBatchLaw, InSlot}
-use Rattle.sessions.specs.Session.{emptySession, withNext, withReceivedData}
+use Rattle.sessions.specs.Session.{emptySession}
 use Rattle.sessions.specs.Sessions.{put}
 use Rattle.sessions.specs.Store.{slotWords, putSlot}
 use Rattle.sessions.specs.declared.batch.Progress.{Progress}
@@ -23,6 +23,7 @@ use Rattle.sessions.specs.declared.session.Session.{Session}
 use Rattle.sessions.specs.declared.sessions.Found.the-variants.{Nothing, Got}
 use Rattle.sessions.specs.declared.sessions.Found.{Found}
 use Rattle.sessions.specs.declared.sessions.Sessions.{Sessions}
+use Rattle.sessions.proofs.Batches.{or-false}
 use Rattle.sessions.proofs.Lookups.{received-slot}
 use Rattle.sessions.proofs.Words.{slot-long}
 
@@ -107,12 +108,13 @@ put-own store k l low =
 
 -- an empty batch
 module _ (s : Sessions) (store : List ℕ) (index id now : ℕ) where
-  unmarked : (x : Session) → withNext (withReceivedData x (x .«received_data» || false)) (x .next) ≡ x
-  unmarked x = go (x .«received_data») refl
-    where
-      go : (b : Bool) → x .«received_data» ≡ b → withNext (withReceivedData x (x .«received_data» || false)) (x .next) ≡ x
-      go true e = rw e (sym (rw (sym e) refl))
-      go false e = rw e (sym (rw (sym e) refl))
+  -- a batch that accepts nothing
+  abbrev nothing : Session → Progress
+  nothing x = record { next = x .next; accepted = false; «data» = false }
+
+  unmarked : (x : Session) → afterBatch x (nothing x) now ≡ x
+  unfolding choose
+  unmarked x = rw (or-false (x .«received_data»)) refl
 
   judged-session : (x y : Session) (p q : Progress) → Judged x p ≡ Judged y q → x ≡ y
   judged-session x y p q e = cc
@@ -131,8 +133,7 @@ module _ (s : Sessions) (store : List ℕ) (index id now : ℕ) where
   empty-leaves true (Got x) e q =
       record {
         answer = λ y p r.
-            let j : Judged (withNext (withReceivedData x (x .«received_data» || false)) (x .next)) (record { next = x .next; accepted = false; «data» = false }) ≡ Judged y p =
-            rw (e, q) at r in (
+            let j : Judged (afterBatch x (nothing x) now) (nothing x) ≡ Judged y p = rw (e, q) at r in (
               ap (put s) (sym (judged-session _ y _ p j) ∙ unmarked x) ∙ put-same x (received-slot s index id now x q .0),
               ap (λ (z : Progress). z .accepted) (sym (judged-progress _ y _ p j)),
             );

@@ -9,13 +9,14 @@ use Rattle.base.specs.Choice.{choose}
 use Rattle.window.specs.Window.{willAccept, nextAfter, wordsAfter, skippedBy}
 use Rattle.sessions.specs.Index.{slotOf}
 use Rattle.sessions.specs.Store.{whole, slotWords, putSlot}
-use Rattle.sessions.specs.Session.{withReceivedData, withNext, expiredAt}
+use Rattle.sessions.specs.Session.{withReceivedData, withNext, withLastHeard, expiredAt}
 use Rattle.sessions.specs.Cases.{caseFound}
 use Rattle.sessions.specs.Sessions.{get}
 use Rattle.sessions.specs.declared.batch.Progress.{Progress}
 use Rattle.sessions.specs.declared.batch.Finished.{Finished}
 use Rattle.sessions.specs.declared.batch.Received.{Received}
 use Rattle.sessions.specs.declared.batch.Received.the-variants.{Rejected, Judged}
+use Rattle.sessions.specs.declared.session.Session.{Session}
 use Rattle.sessions.specs.declared.sessions.Found.{Found}
 use Rattle.sessions.specs.declared.sessions.Found.the-variants.{Nothing, Got}
 use Rattle.sessions.specs.declared.sessions.Sessions.{Sessions}
@@ -100,6 +101,15 @@ finishAll words progress (counter ∷ counters) (kind ∷ kinds) =
       skips = message .finished .skipped ∷ rest .skips;
     }
 
+-- a session last heard at this time, if a message was accepted
+abbrev pub hear : Session → (accepted : Bool) → (now : ℕ) → Session
+hear s accepted now = withLastHeard s (choose accepted now (s .«last_heard»))
+
+-- a session after a batch: its window's next, whether any data has been received, and when it was last heard
+abbrev pub afterBatch : Session → Progress → (now : ℕ) → Session
+afterBatch s progress now =
+    hear (withReceivedData (withNext s (progress .next)) (s .«received_data» || progress .«data»)) (progress .accepted) now
+
 -- the session that a batch is for: the one with this index and id, if it is not expired
 unfoldable pub receivingSession : Sessions → (index id now : ℕ) → Found
 receivingSession s index id now =
@@ -115,7 +125,7 @@ receive s store index id now counters kinds verdicts skips =
     let slot : ℕ = slotOf (session .«receiving_index») in
     let batch : Batched Progress = finishAll (slotWords store slot) (record { next = session .next; accepted = false; «data» = false }) counters kinds in
     record {
-      out = Judged (withNext (withReceivedData session (session .«received_data» || batch .out .«data»)) (batch .out .next)) (batch .out);
+      out = Judged (afterBatch session (batch .out) now) (batch .out);
       store = putSlot store slot (batch .store);
       verdicts = batch .verdicts;
       skips = batch .skips;

@@ -9,11 +9,13 @@ use Rattle.sessions.specs.declared.session.Session.{Session}
 use Rattle.sessions.specs.Sessions.{slotAt}
 use Rattle.sessions.specs.declared.sessions.Sessions.{Sessions}
 
--- a filled slot's time is at most the greatest time, its send counter and its window's next at most LIMIT, its index of this slot
+-- a filled slot: its age counts from a time at most that at which it was last heard, which is at most the greatest time; its send counter and its
+-- window's next are at most LIMIT; its index is of this slot
 unfoldable pub slotHolds : Session → (slot greatest : ℕ) → Bool
 slotHolds s slot greatest =
     choose (s .filled)
-    (leb (s .«established_at») greatest and leb (s .«sending_key_counter») rejectAfterMessages and leb (s .next) rejectAfterMessages
+    (leb (s .«established_at») (s .«last_heard») and leb (s .«last_heard») greatest
+    and leb (s .«sending_key_counter») rejectAfterMessages and leb (s .next) rejectAfterMessages
     and eqb (slotOf (s .«receiving_index»)) slot)
     true
 

@@ -1,12 +1,14 @@
 -- What follows from the definitions: what the lookups find, which slots a call touches, how many words it leaves, which index is allocated, which
--- lists make a batch, what a batch leaves that is turned down or empty, which numbers an early look gives, which counters a missing report counts,
--- which are left to grant, and how a range is cut.
+-- lists make a batch, what a batch leaves that is turned down or empty, when a session was last heard, which numbers an early look gives, which
+-- counters a missing report counts, which are left to grant, and how a range is cut.
 use mathlib.Core.Path.{_≡_}
-use mathlib.Core.Bool.{true, false}
+use mathlib.Core.Bool.{Bool, true, false}
 use mathlib.Core.List.{List, [], _∷_, _++_}
 use mathlib.Core.Logic.{_⊎_}
+use lib.Dec.{eqb}
 use lib.ListN.{length, getD}
 use Prim.Native.Nat.{ℕ, _+_, _-_, _/_, _^_, _≤_, _<_, min}
+use Rattle.base.specs.Choice.{choose}
 use Rattle.base.specs.Lists.{zeros}
 use Rattle.base.specs.Sums.{sum}
 use Rattle.sessions.specs.declared.session.Session.{Session}
@@ -15,7 +17,7 @@ use Rattle.sessions.specs.declared.sessions.Missing.the-variants.{Refuse
 use Rattle.sessions.specs.declared.sessions.Sessions.{Sessions}
 use Rattle.sessions.specs.Index.{slotOf, wrappingIncrement}
 use Rattle.sessions.specs.Store.{slotWords, putSlot}
-use Rattle.sessions.specs.Sessions.{slotAt, get, currentOf, sendingSession, inCurrentSlot, nextIndex, insert, clear, expiredSlot, noneExpired, expiring, expire, put, newSessions, missing}
+use Rattle.sessions.specs.Sessions.{slotAt, get, currentOf, sendingSession, inCurrentSlot, nextIndex, insert, clear, expiredSlot, noneExpired, expiring, expire, put, newSessions, lastHeard, missing}
 use Rattle.sessions.specs.Batch.{fits, finishAll, receivingSession, receive}
 use Rattle.window.specs.Window.{limit, bitAt}
 use Rattle.sessions.specs.declared.batch.Progress.{Progress}
@@ -25,6 +27,7 @@ use Rattle.sessions.specs.declared.batch.Received.the-variants.{Rejected
 use Rattle.sessions.specs.declared.range.Range.{Range}
 use Rattle.sessions.specs.declared.session.Reserved.the-variants.{TooFew, First}
 use Rattle.sessions.specs.declared.session.Role.the-variants.{Initiator}
+use Rattle.sessions.specs.declared.session.Time.the-variants.{Never, At}
 use Rattle.sessions.specs.Cases.{caseReceived}
 
 -- a slot has the same record and the same words before and after
@@ -89,6 +92,9 @@ pub record LookupLaw (s : Sessions) : Type 0 where
   -- a session that fills its slot, has the index and the id and is younger than 180 s is found for a batch
   pub receives : (index now : ℕ) (x : Session) → InSlot s index x → now < x .«established_at» + 180000000000
       → receivingSession s index (x .id) now ≡ Got x
+  -- when the session that fills its slot and has the index was last heard, and none where there is no such session
+  pub heard : (index : ℕ) (x : Session) → InSlot s index x → lastHeard s index ≡ At (x .«last_heard»)
+  pub unheard : (index : ℕ) → ((x : Session) → InSlot s index x → ⊥) → lastHeard s index ≡ Never
 
 -- What words put into a slot leave: the store's length, the slot's words where they are 128, and every other slot's.
 pub record SlotLaw (store words : List ℕ) (slot : ℕ) : Type 0 where
@@ -141,6 +147,19 @@ pub record EmptyBatchLaw (s : Sessions) (store : List ℕ) (index id now : ℕ) 
   pub words : receive s store index id now [] [] [] [] .store ≡ store
   pub list : receive s store index id now [] [] [] [] .verdicts ≡ []
   pub skip-list : receive s store index id now [] [] [] [] .skips ≡ []
+
+-- whether one of the verdicts is 0, so that the batch committed a message, data or keepalive
+unfoldable pub commits : List ℕ → Bool
+commits [] = false
+commits (verdict ∷ verdicts) = choose (eqb verdict 0) true (commits verdicts)
+
+-- A batch that commits a message leaves its own time as that at which the session was last heard; any other leaves that time as it was.
+pub record HeardLaw (s : Sessions) (store : List ℕ) (index id now : ℕ) (counters kinds verdicts skips : List ℕ) : Type 0 where
+  pub committed : (session : Session) (progress : Progress) → receive s store index id now counters kinds verdicts skips .out ≡ Judged session progress
+      → commits (receive s store index id now counters kinds verdicts skips .verdicts) ≡ true → session .«last_heard» ≡ now
+  pub uncommitted : (before session : Session) (progress : Progress) → InSlot s index before
+      → receive s store index id now counters kinds verdicts skips .out ≡ Judged session progress
+      → commits (receive s store index id now counters kinds verdicts skips .verdicts) ≡ false → session .«last_heard» ≡ before .«last_heard»
 
 -- The messages of a batch keep the window's next at most LIMIT.
 pub record NextLaw (words : List ℕ) (progress : Progress) (counters kinds : List ℕ) : Type 0 where

@@ -56,13 +56,14 @@ least a b = choose (ltb b a) b a
 unfoldable pub earlier : Time → Time → Time
 earlier a b = caseTime a b (λ x. caseTime b (At x) (λ y. At (least x y)))
 
--- a session just established
+-- a session just established, last heard at that time
 unfoldable pub newSession : (local peer : ℕ) → Role → (now : ℕ) → Session
 newSession local peer role now =
     record {
       filled = true;
       id = 0;
       «established_at» = now;
+      «last_heard» = now;
       role = role;
       «sent_data» = false;
       «received_data» = false;
@@ -79,6 +80,7 @@ withFilled s x =
       filled = x;
       id = s .id;
       «established_at» = s .«established_at»;
+      «last_heard» = s .«last_heard»;
       role = s .role;
       «sent_data» = s .«sent_data»;
       «received_data» = s .«received_data»;
@@ -95,6 +97,7 @@ withId s x =
       filled = s .filled;
       id = x;
       «established_at» = s .«established_at»;
+      «last_heard» = s .«last_heard»;
       role = s .role;
       «sent_data» = s .«sent_data»;
       «received_data» = s .«received_data»;
@@ -111,6 +114,7 @@ withSentData s x =
       filled = s .filled;
       id = s .id;
       «established_at» = s .«established_at»;
+      «last_heard» = s .«last_heard»;
       role = s .role;
       «sent_data» = x;
       «received_data» = s .«received_data»;
@@ -127,6 +131,7 @@ withReceivedData s x =
       filled = s .filled;
       id = s .id;
       «established_at» = s .«established_at»;
+      «last_heard» = s .«last_heard»;
       role = s .role;
       «sent_data» = s .«sent_data»;
       «received_data» = x;
@@ -143,6 +148,7 @@ withCounter s x =
       filled = s .filled;
       id = s .id;
       «established_at» = s .«established_at»;
+      «last_heard» = s .«last_heard»;
       role = s .role;
       «sent_data» = s .«sent_data»;
       «received_data» = s .«received_data»;
@@ -159,6 +165,7 @@ withNext s x =
       filled = s .filled;
       id = s .id;
       «established_at» = s .«established_at»;
+      «last_heard» = s .«last_heard»;
       role = s .role;
       «sent_data» = s .«sent_data»;
       «received_data» = s .«received_data»;
@@ -166,6 +173,23 @@ withNext s x =
       «sending_index» = s .«sending_index»;
       «sending_key_counter» = s .«sending_key_counter»;
       next = x;
+    }
+
+-- a session with another time at which it was last heard
+abbrev pub withLastHeard : Session → ℕ → Session
+withLastHeard s x =
+    record {
+      filled = s .filled;
+      id = s .id;
+      «established_at» = s .«established_at»;
+      «last_heard» = x;
+      role = s .role;
+      «sent_data» = s .«sent_data»;
+      «received_data» = s .«received_data»;
+      «receiving_index» = s .«receiving_index»;
+      «sending_index» = s .«sending_index»;
+      «sending_key_counter» = s .«sending_key_counter»;
+      next = s .next;
     }
 
 -- the record of an empty slot

@@ -204,6 +204,10 @@ firstExpiry s (suc count) = earlier (firstExpiry s count) (slotExpiry s count)
 abbrev pub nextExpiry : Sessions → Time
 nextExpiry s = firstExpiry s 8
 
+-- when the session with exactly this index was last heard
+unfoldable pub lastHeard : Sessions → ℕ → Time
+lastHeard s index = caseFound (get s index) Never (λ session. At (session .«last_heard»))
+
 -- the missing report: 2 for a store not of 1,024 words, 12 where no session has this index, else its window's missing count
 unfoldable pub missing : Sessions → List ℕ → ℕ → Missing
 missing s store index =

@@ -3,15 +3,14 @@ use crate::index::slot_of;
 use crate::session::Session;
 use crate::sessions::Found;
 use crate::sessions::Sessions;
-ghost use mathlib.Core.Bool.{false, _||_};
+ghost use mathlib.Core.Bool.{false};
 ghost use mathlib.Core.Path.{_≡_};
 ghost use Prim.Native.Nat.{_<_};
 ghost use lib.Dec.{ltb};
 ghost use lib.ListN.{length, getD, set};
 ghost use Rattle.base.specs.Choice.{choose};
-ghost use Rattle.sessions.specs.Session.{withReceivedData, withNext};
 ghost use Rattle.sessions.specs.Store.{Leaves};
-ghost use Rattle.sessions.specs.Batch.{LeavesBatch, known, fits, finishReceivePacketData, finishAt, finishAll, receivingSession, receive};
+ghost use Rattle.sessions.specs.Batch.{LeavesBatch, known, fits, finishReceivePacketData, finishAt, finishAll, hear, afterBatch, receivingSession, receive};
 
 // The kind of a message that opened as data.
 pub const DATA: u8 = 0;
@@ -193,16 +192,27 @@ fn finish_all(
 }
 
 impl Session {
-    // The session after a batch: its window's next expected counter, and whether any data has been received.
-    fn after_batch(mut self, next: u64, data: bool) -> Session
-        ensures { λ r. ⌜ r ≡ withNext (withReceivedData self (self .«received_data» || «data»)) next ⌝ }
+    // Notes the time of a batch, if any message was accepted.
+    fn hear(mut self, accepted: bool, now: u64) -> Session
+        ensures { λ r. ⌜ r ≡ hear self accepted now ⌝ }
     {
-        self.next = next;
-        if !data {
+        if accepted {
+            self.last_heard = now;
             return self;
         }
-        self.received_data = true;
         self
+    }
+
+    // The session after a batch: its window's next expected counter, whether any data has been received, and when it was last heard.
+    fn after_batch(mut self, progress: Progress, now: u64) -> Session
+        ensures { λ r. ⌜ r ≡ afterBatch self progress now ⌝ }
+    {
+        self.next = progress.next;
+        if progress.data {
+            self.received_data = true;
+            return self.hear(progress.accepted, now);
+        }
+        self.hear(progress.accepted, now)
     }
 }
 
@@ -263,7 +273,7 @@ impl Sessions {
             verdicts,
             skips,
         );
-        let after = session.after_batch(progress.next, progress.data);
+        let after = session.after_batch(progress, now);
         Received::Judged(after, progress)
     }
 }

@@ -7,7 +7,7 @@ ghost use Rattle.sessions.specs.Reservations.{ReservationLaw};
 ghost use lib.ListN.{length};
 ghost use Rattle.sessions.specs.declared.batch.Progress.{Progress};
 ghost use Rattle.sessions.specs.declared.sessions.Sessions.{Sessions};
-ghost use Rattle.sessions.specs.Laws.{SlotsApart, NextIndexLaw, EmptyLaw, LookupLaw, SlotLaw, WholeLaw, ExpiryLaw, FitsLaw, LookLaw, NextLaw, RejectedLaw, EmptyBatchLaw, ReserveLaw, SplitLaw, InSlot, MissingLaw, NoReportLaw, MissingExample};
+ghost use Rattle.sessions.specs.Laws.{SlotsApart, NextIndexLaw, EmptyLaw, LookupLaw, SlotLaw, WholeLaw, ExpiryLaw, FitsLaw, LookLaw, NextLaw, RejectedLaw, EmptyBatchLaw, HeardLaw, ReserveLaw, SplitLaw, InSlot, MissingLaw, NoReportLaw, MissingExample};
 ghost use Rattle.sessions.specs.declared.range.Range.{Range};
 
 // The counters that a session grants to any list of reservations are 0, 1, 2 on, all below the limit.
@@ -30,7 +30,7 @@ pub fn empty_law()
     ensures { λ r. ⌜ EmptyLaw ⌝ }
 {}
 
-// What the lookups find: a session that fills its slot, and for sending the current one.
+// What the lookups find: a session that fills its slot, for sending the current one, and when a session was last heard.
 pub fn lookup_law()
     ensures { λ r. ⌜ ((s : Sessions) → LookupLaw s) ⌝ }
 {}
@@ -73,6 +73,11 @@ pub fn rejected_law()
 // An empty batch leaves the session, the store and the verdict list as they were.
 pub fn empty_batch_law()
     ensures { λ r. ⌜ ((s : Sessions) (store : List ℕ) (index id now : ℕ) → EmptyBatchLaw s store index id now) ⌝ }
+{}
+
+// A batch that commits a message sets the time at which its session was last heard, any other leaves it.
+pub fn heard_law()
+    ensures { λ r. ⌜ ((s : Sessions) (store : List ℕ) (index id now : ℕ) (counters kinds verdicts skips : List ℕ) → HeardLaw s store index id now counters kinds verdicts skips) ⌝ }
 {}
 
 // A session grants counters as long as they end at the limit at most.

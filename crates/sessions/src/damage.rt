@@ -6,12 +6,15 @@ use crate::sessions::Sessions;
 ghost use mathlib.Core.Path.{_≡_};
 ghost use Rattle.sessions.specs.Damage.{slotHolds, sessionsHold};
 
-// A filled slot's time, counters and index.
+// A filled slot's times, counters and index.
 fn slot_holds(session: Session, slot: usize, greatest: u64) -> bool
     ensures { λ r. ⌜ r ≡ slotHolds session slot greatest ⌝ }
 {
     if session.filled {
-        if session.established_at > greatest {
+        if session.established_at > session.last_heard {
+            return false;
+        }
+        if session.last_heard > greatest {
             return false;
         }
         if session.sending_key_counter > REJECT_AFTER_MESSAGES {

@@ -73,7 +73,10 @@ pub struct Session {
     pub filled: bool,
     // How many sessions were inserted before this one.
     pub id: u64,
+    // The time from which its age counts.
     pub established_at: u64,
+    // The time of the last batch that committed a message to it, at first that from which its age counts.
+    pub last_heard: u64,
     pub role: Role,
     pub sent_data: bool,
     pub received_data: bool,
@@ -101,6 +104,7 @@ impl Session {
             filled: true,
             id: 0,
             established_at: now,
+            last_heard: now,
             role,
             sent_data: false,
             received_data: false,

@@ -12,7 +12,7 @@ ghost use mathlib.Core.Path.{_≡_};
 ghost use Prim.Native.Nat.{_<_};
 ghost use lib.ListN.{length};
 ghost use Rattle.sessions.specs.Store.{Leaves};
-ghost use Rattle.sessions.specs.Sessions.{TimesWithin, newSessions, inSlotOf, get, put, currentOf, inCurrentSlot, nextIndex, insert, usable, sendingSession, isIndex, select, setCurrent, clear, emptied, expiredSlot, noneExpired, discard, expiring, expireSlot, expire, isEmpty, slotExpiry, nextExpiry, missing};
+ghost use Rattle.sessions.specs.Sessions.{TimesWithin, newSessions, inSlotOf, get, put, currentOf, inCurrentSlot, nextIndex, insert, usable, sendingSession, isIndex, select, setCurrent, clear, emptied, expiredSlot, noneExpired, discard, expiring, expireSlot, expire, isEmpty, slotExpiry, nextExpiry, lastHeard, missing};
 
 // What a lookup answers.
 pub enum Found {
@@ -346,6 +346,16 @@ impl Sessions {
             slot = slot + 1;
         }
         earliest
+    }
+
+    // When the session with exactly this index was last heard.
+    pub fn last_heard(self, index: u32) -> Time
+        ensures { λ r. ⌜ r ≡ lastHeard self index ⌝ }
+    {
+        let Found::Got(session) = self.get(index) else {
+            return Time::Never;
+        };
+        Time::At(session.last_heard)
     }
 
     // The number of counters not committed to the session with this index, among the last 8,192 below the next expected one or among all where there are fewer.

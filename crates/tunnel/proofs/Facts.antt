@@ -170,23 +170,30 @@ slot-facts : (s : Session) (slot most : ℕ) → slotHolds s slot most ≡ true 
 unfolding slotHolds
 slot-facts s slot most h f = facts (picked (s .filled) _ h f)
   where
-    facts : (leb (s .«established_at») most and leb (s .«sending_key_counter») rejectAfterMessages and leb (s .next) rejectAfterMessages and eqb (slotOf (s .«receiving_index»)) slot) ≡ true
+    facts : (leb (s .«established_at») (s .«last_heard») and leb (s .«last_heard») most and leb (s .«sending_key_counter») rejectAfterMessages
+        and leb (s .next) rejectAfterMessages and eqb (slotOf (s .«receiving_index»)) slot) ≡ true
         → SlotWithin s slot most
     facts p =
+        let onward : s .«established_at» ≤ s .«last_heard» = leb-true (s .«established_at») (s .«last_heard») (first _ _ p) in
+        let heard : s .«last_heard» ≤ most = leb-true (s .«last_heard») most (first _ _ (second _ _ p)) in
+        let rest = second _ _ (second _ _ p) in
         record {
-          established = leb-true (s .«established_at») most (first _ _ p);
-          counter = leb-true (s .«sending_key_counter») rejectAfterMessages (first _ _ (second _ _ p));
-          next = leb-true (s .next) rejectAfterMessages (first _ _ (second _ _ (second _ _ p)));
-          index = eqb-true (slotOf (s .«receiving_index»)) slot (second _ _ (second _ _ (second _ _ p)));
+          established = omega (arith, onward, heard);
+          onward = onward;
+          heard = heard;
+          counter = leb-true (s .«sending_key_counter») rejectAfterMessages (first _ _ rest);
+          next = leb-true (s .next) rejectAfterMessages (first _ _ (second _ _ rest));
+          index = eqb-true (slotOf (s .«receiving_index»)) slot (second _ _ (second _ _ rest));
         }
 
 slot-holds : (s : Session) (slot most : ℕ) → (s .filled ≡ true → SlotWithin s slot most) → slotHolds s slot most ≡ true
 unfolding slotHolds
 slot-holds s slot most w =
     either (s .filled) (λ f.
-    joined (le-leb (s .«established_at») most (w f .established))
+    joined (le-leb (s .«established_at») (s .«last_heard») (w f .onward))
+    (joined (le-leb (s .«last_heard») most (w f .heard))
     (joined (le-leb (s .«sending_key_counter») rejectAfterMessages (w f .counter))
-    (joined (le-leb (s .next) rejectAfterMessages (w f .next)) (eq-eqb (slotOf (s .«receiving_index»)) slot (w f .index)))))
+    (joined (le-leb (s .next) rejectAfterMessages (w f .next)) (eq-eqb (slotOf (s .«receiving_index»)) slot (w f .index))))))
 
 -- the slots
 slots-facts : (s : Sessions) (count most : ℕ) → slotsHold s count most ≡ true → (k : ℕ) → k < count → slotHolds (slotAt s k) k most ≡ true

@@ -45,7 +45,15 @@ module _ (a b : ℕ) (l : a ≤ b) where
       }
 
   slot-later : (s : Session) (slot : ℕ) → SlotWithin s slot a → SlotWithin s slot b
-  slot-later s slot w = record { established = omega (arith, w .established); counter = w .counter; next = w .next; index = w .index }
+  slot-later s slot w =
+      record {
+        established = omega (arith, w .established);
+        onward = w .onward;
+        heard = omega (arith, w .heard);
+        counter = w .counter;
+        next = w .next;
+        index = w .index;
+      }
 
   sessions-later : (s : Sessions) → SessionsWithin s a → SessionsWithin s b
   sessions-later s w = record { slots = λ k h f. slot-later (slotAt s k) k (w .slots k h f) }

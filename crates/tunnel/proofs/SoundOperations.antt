@@ -122,7 +122,7 @@ module _ (most now : ℕ) (h : now ≤ most) where
 
   prepared-within : (x : Session) → OwnSlot x most → OwnSlot (preparePacketData x) most
   unfolding preparePacketData
-  prepared-within x v = record { established = v .established; counter = v .counter; next = v .next; index = refl }
+  prepared-within x v = record { established = v .established; onward = v .onward; heard = v .heard; counter = v .counter; next = v .next; index = refl }
 
   sound-responding : (c : Control) (store : List ℕ) (local peer : ℕ) → SoundControl c most
       → SoundControl (responding c (appendMac1AndMac2 (c .handshake) local) store (newSession local peer Responder now) now) most
@@ -185,7 +185,7 @@ module _ (old now : ℕ) (l : old ≤ now) (c : Control) (w : SoundControl c old
       of-choice (λ (y : Batched Out). SoundOut (y .out) old now) _ _ _ (refuse-sound old now c 11 w)
       (known-received (λ (y : Out). SoundOut y old now) _ _ _ (λ n. refuse-sound old now c n w)
       (λ x p e. done-sound old now _ _ (sound-accept now now same c x p index
-      (receive-sound now (c .sessions) store index id now counters kinds verdicts skips (later .within .sessions) x p e) later)))
+      (receive-sound (c .sessions) store index id now counters kinds verdicts skips (later .within .sessions) x p e) later)))
 
   pub look-sound : (store : List ℕ) (index counter : ℕ) → SoundOut (beginDecapsulate c store index counter now) old now
   unfolding beginDecapsulate

@@ -62,11 +62,11 @@ module _ (most : ℕ) where
   unfolding reserveCounters
   counted-within x y count n w p =
       let q : (leb (x .«sending_key_counter» + count) rejectAfterMessages ≡ true) × (withCounter x (x .«sending_key_counter» + count) ≡ y) = of-granted _ _ _ _ _ p in
-      rw (← q .1) (record { established = w .established; counter = leb-true _ _ (q .0); next = w .next; index = refl })
+      rw (← q .1) (record { established = w .established; onward = w .onward; heard = w .heard; counter = leb-true _ _ (q .0); next = w .next; index = refl })
 
   pub new-within : (local peer now id : ℕ) (role : Role) → now ≤ most → OwnSlot (withId (newSession local peer role now) id) most
   unfolding newSession
-  new-within local peer now id role h = record { established = h; counter = omega arith; next = omega arith; index = refl }
+  new-within local peer now id role h = record { established = h; onward = omega arith; heard = h; counter = omega arith; next = omega arith; index = refl }
 
   pub sending-within : (s : Sessions) (now : ℕ) (x : Session) → SessionsWithin s most → sendingSession s now ≡ Got x → OwnSlot x most
   sending-within s now x w p = current-within s most w (currentOf s) x (lookup-law s .sending now x p .0) refl
@@ -150,18 +150,27 @@ module _ (most : ℕ) where
   judged-sound : (x : Session) (p : Progress) → OwnSlot x most → SoundReceived (Judged x p) most
   judged-sound x p w y q e = let same : x ≡ y = cc in rw (← same) w
 
-  pub receive-sound : (s : Sessions) (store : List ℕ) (index id now : ℕ) (counters kinds verdicts skips : List ℕ) → SessionsWithin s most
-      → SoundReceived (receive s store index id now counters kinds verdicts skips .out) most
-  unfolding receive
-  receive-sound s store index id now counters kinds verdicts skips w =
-      of-choice (λ (y : Batched Received). SoundReceived (y .out) most) _ _ _
-      (of-choice (λ (y : Batched Received). SoundReceived (y .out) most) _ _ _
-      (known-found (λ (y : Batched Received). SoundReceived (y .out) most) (receivingSession s index id now) _ _ (rejected-sound 12)
-      (λ x p.
-      let v : SlotWithin x (slotOf index) most = slot-within s most w index x (lookup-law s .receiving index id now x p .0) in
-      judged-sound _ _ (record { established = v .established; counter = v .counter; next = next-law _ _ counters kinds .within (v .next); index = refl })))
-      (rejected-sound 2))
-      (rejected-sound 2)
+-- one that was sound below the batch's own time
+pub receive-sound : (s : Sessions) (store : List ℕ) (index id now : ℕ) (counters kinds verdicts skips : List ℕ) → SessionsWithin s now
+    → SoundReceived (receive s store index id now counters kinds verdicts skips .out) now
+unfolding receive
+receive-sound s store index id now counters kinds verdicts skips w =
+    of-choice (λ (y : Batched Received). SoundReceived (y .out) now) _ _ _
+    (of-choice (λ (y : Batched Received). SoundReceived (y .out) now) _ _ _
+    (known-found (λ (y : Batched Received). SoundReceived (y .out) now) (receivingSession s index id now) _ _ (rejected-sound now 12)
+    (λ x p.
+    let v : SlotWithin x (slotOf index) now = slot-within s now w index x (lookup-law s .receiving index id now x p .0) in
+    judged-sound now _ _
+    (record {
+      established = v .established;
+      onward = of-choice (λ (time : ℕ). x .«established_at» ≤ time) _ now (x .«last_heard») (v .established) (v .onward);
+      heard = of-choice (λ (time : ℕ). time ≤ now) _ now (x .«last_heard») (omega arith) (v .heard);
+      counter = v .counter;
+      next = next-law _ _ counters kinds .within (v .next);
+      index = refl;
+    })))
+    (rejected-sound now 2))
+    (rejected-sound now 2)
 
 -- a control that is sound below one time is sound below every later one
 pub sound-later : (a b : ℕ) → a ≤ b → (c : Control) → SoundControl c a → SoundControl c b

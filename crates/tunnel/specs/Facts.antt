@@ -19,9 +19,12 @@ use Rattle.sessions.specs.declared.sessions.Sessions.{Sessions}
 use Rattle.tunnel.specs.Damage.{undamaged}
 use Rattle.tunnel.specs.declared.tunnel.Tunnel.{Tunnel}
 
--- a session's time is at most this, its counters are at most 2^64 - 8,193, and its index is of this slot
+-- a session's times are at most this, it was not last heard before its age counts, its counters are at most 2^64 - 8,193, and its index is of
+-- this slot
 pub record SlotWithin (s : Session) (slot most : ℕ) : Type 0 where
   pub established : s .«established_at» ≤ most
+  pub onward : s .«established_at» ≤ s .«last_heard»
+  pub heard : s .«last_heard» ≤ most
   pub counter : s .«sending_key_counter» ≤ 2 ^ 64 - 8193
   pub next : s .next ≤ 2 ^ 64 - 8193
   pub index : slotOf (s .«receiving_index») ≡ slot

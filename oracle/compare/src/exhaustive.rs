@@ -83,7 +83,8 @@ impl Iterator for Exhaustive {
     }
 }
 
-/// The script of a word: a tunnel, each letter with the deadline after it, the skips after each batch, the events and the skips.
+/// The script of a word: a tunnel, each letter with the deadline after it, the skips and the last heard time after each batch, the events, the
+/// skips and when each session was last heard.
 fn spell(word: impl Iterator<Item = Letter>) -> Script {
     let mut speller = Speller {
         driver: Driver::new(),
@@ -97,10 +98,15 @@ fn spell(word: impl Iterator<Item = Letter>) -> Script {
         speller.ask("next".to_string());
         if matches!(letter, Letter::Recv) {
             speller.ask("skips".to_string());
+            let (index, _, _) = speller.newest();
+            speller.ask(format!("heard {index}"));
         }
     }
     while !matches!(speller.ask("event".to_string()), Some(Answer::None)) {}
     speller.ask("skips".to_string());
+    for index in speller.held() {
+        speller.ask(format!("heard {index}"));
+    }
 
     Script {
         lines: speller.lines,
@@ -122,13 +128,29 @@ impl Speller {
         answer.ok()
     }
 
+    /// The indices of all sessions.
+    fn held(&self) -> Vec<u32> {
+        let sessions = self.driver.view().map_or_else(Vec::new, |v| v.sessions);
+
+        sessions.into_iter().map(|session| session.index).collect()
+    }
+
+    /// The newest session's index, its id and its next counter, or the last index where there is none.
+    fn newest(&self) -> (u32, u64, u64) {
+        let view = self.driver.view().expect("the word began with `new`");
+        let newest = view.sessions.iter().max_by_key(|session| session.id);
+
+        newest.map_or((view.last_index, 0, 0), |s| {
+            (s.index, s.id, s.next_received)
+        })
+    }
+
     /// The line of a letter in the present state.
     fn line(&self, letter: Letter) -> String {
         let view = self.driver.view().expect("the word began with `new`");
         let now = view.greatest;
         let last = view.last_index;
         let [present, previous] = view.initiations;
-        let newest = view.sessions.iter().max_by_key(|session| session.id);
         let due = view.deadlines.iter().filter(|at| **at > now).min();
 
         match letter {
@@ -138,8 +160,7 @@ impl Speller {
             Letter::Late => format!("resp {} 8 0 {now}", previous.unwrap_or(last - 1)),
             Letter::Hello => format!("hello 7 0 {now}"),
             Letter::Recv => {
-                let (index, id, next) =
-                    newest.map_or((last, 0, 0), |s| (s.index, s.id, s.next_received));
+                let (index, id, next) = self.newest();
                 format!("recv {index} {id} {now} {next} d")
             }
             Letter::Send => format!("send 1 {now}"),

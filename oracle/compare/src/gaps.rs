@@ -1,6 +1,7 @@
-//! The gap scripts: windows of every length that document 02's note 2 tells apart, with the skips and the missing report after each commit.
+//! The gap scripts: windows of every length that document 02's note 2 tells apart, with the skips and the missing report after each commit; and
+//! batches of every kind, with the last heard times after each.
 
-use oracle::{Answer, Driver};
+use oracle::{Answer, Driver, ViewSession};
 
 use crate::maker::Script;
 use crate::moves::LIMIT;
@@ -19,6 +20,8 @@ const LAST: u64 = 8_330;
 const WINDOW: u64 = 8_192;
 /// The most messages of a batch.
 const MAX_BATCH: u64 = 1_024;
+/// The most messages of a batch whose kinds are all gone through.
+const KINDS_OF: u32 = 4;
 
 /// All gap scripts with the names they are reported by.
 pub fn gap_scripts() -> Vec<(String, Script)> {
@@ -32,6 +35,8 @@ pub fn gap_scripts() -> Vec<(String, Script)> {
         ("an index again".to_string(), returned()),
         ("ends".to_string(), ends()),
         ("batches".to_string(), batches()),
+        ("last heard".to_string(), last_heard()),
+        ("last heard of eight".to_string(), last_heard_of_eight()),
     ];
     for first in 0..3 {
         parts.push((format!("every third from {first}"), grown(first, 3)));
@@ -107,6 +112,23 @@ impl Gaps {
         let line = format!("missing {}", session.index);
 
         self.lines.push(line.into_bytes());
+    }
+
+    /// Asks when a session was last heard.
+    fn heard(&mut self, session: Session) {
+        let line = format!("heard {}", session.index);
+
+        self.lines.push(line.into_bytes());
+    }
+
+    /// Asks when each session was last heard, and the ones before them in their slots.
+    fn all_heard(&mut self) {
+        let last = self.driver.view().map_or(0, |view| view.last_index);
+
+        for back in 0..17u32 {
+            let index = (last & !0xff) | (last.wrapping_sub(back) & 0xff);
+            self.lines.push(format!("heard {index}").into_bytes());
+        }
     }
 
     /// Asks for the skips.
@@ -299,5 +321,80 @@ fn batches() -> Gaps {
         next += step * len + 1;
     }
     gaps.batch(session, "0 d");
+    gaps
+}
+
+/// Batches of up to four messages in every combination of data, keepalives, failed openings, replays and counters too old, each a nanosecond
+/// later, with the last heard times of the session and of another one after each.
+fn last_heard() -> Gaps {
+    const KINDS: u64 = 5;
+    const FIRST: u64 = 2 * WINDOW;
+    let (mut gaps, session) = Gaps::with_session();
+    let other = gaps.session();
+    let Session { index, id } = session;
+    let mut next = FIRST + 1;
+    let mut time = 1;
+    gaps.ask(format!("recv {index} {id} 0 {FIRST} d"));
+
+    for len in 0..=KINDS_OF {
+        for word in 0..KINDS.pow(len) {
+            let mut line = format!("recv {index} {id} {time}");
+            for place in 0..len {
+                let (counter, opening) = match word / KINDS.pow(place) % KINDS {
+                    0 => (next, 'd'),
+                    1 => (next, 'k'),
+                    2 => (next, 'f'),
+                    3 => (FIRST, 'd'),
+                    _ => (0, 'd'),
+                };
+                line.push_str(&format!(" {counter} {opening}"));
+                next += u64::from(counter == next && opening != 'f');
+            }
+            gaps.ask(line);
+            gaps.heard(session);
+            gaps.heard(other);
+            time += 1;
+        }
+    }
+    gaps
+}
+
+/// A session in each slot, each made and heard at a time of its own, then replaced or dropped, with all last heard times after each call.
+fn last_heard_of_eight() -> Gaps {
+    let mut gaps = Gaps::new();
+    let mut time = 0;
+
+    for call in 0..24 {
+        time += SECOND;
+        gaps.ask(format!("hello 9 0 {time}"));
+        gaps.all_heard();
+        let sessions = gaps.driver.view().map_or_else(Vec::new, |v| v.sessions);
+        let at = call * 5 % sessions.len();
+        let ViewSession {
+            index,
+            id,
+            next_received: next,
+            ..
+        } = sessions[at];
+        let opening = ['d', 'k', 'f'][call % 3];
+        if call >= 8 {
+            gaps.ask(format!("recv {index} {id} {} {next} {opening}", time + 1));
+            gaps.all_heard();
+        }
+    }
+    let sessions = gaps.driver.view().map_or_else(Vec::new, |v| v.sessions);
+    let mut ends: Vec<u64> = sessions
+        .iter()
+        .map(|session| session.established_at + 180 * SECOND)
+        .collect();
+    ends.sort_unstable();
+    for end in ends {
+        for time in [end - 1, end] {
+            gaps.ask(format!("wake 0 {time}"));
+            gaps.all_heard();
+        }
+    }
+    gaps.ask(format!("wake 0 {}", time + 540 * SECOND));
+    gaps.all_heard();
     gaps
 }

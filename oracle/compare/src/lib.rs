@@ -7,6 +7,7 @@ mod datagrams;
 mod exhaustive;
 mod gaps;
 mod growth;
+mod heard_moves;
 mod insertion;
 mod log_moves;
 mod log_scripts;

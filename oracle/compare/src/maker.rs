@@ -3,6 +3,7 @@
 use oracle::{Answer, Call, Driver, View, ViewSession};
 
 use crate::datagram_moves::Datagrams;
+use crate::heard_moves::HeardMoves;
 use crate::insertion::Insertion;
 use crate::log_moves::LogMoves;
 use crate::profiles::{self, Profile};
@@ -48,6 +49,7 @@ pub(crate) struct Maker {
     pub(crate) datagrams: Datagrams,
     pub(crate) log: LogMoves,
     pub(crate) skips: SkipMoves,
+    pub(crate) heard: HeardMoves,
     /// The extra wakings, where a pair of scripts is made.
     pub(crate) insertion: Option<Insertion>,
 }
@@ -68,6 +70,7 @@ impl Maker {
             datagrams: Datagrams::new(seed),
             log: LogMoves::new(seed),
             skips: SkipMoves::new(seed),
+            heard: HeardMoves::new(seed),
             insertion: None,
         }
     }
@@ -96,20 +99,24 @@ impl Maker {
         }
     }
 
-    /// Ends with all events, the deadline, the missing reports and the skips.
+    /// Ends with all events, the deadline, the missing reports, the skips and when each session was last heard.
     pub(crate) fn end(&mut self) {
         self.drain();
         self.ask("next");
         self.all_missing();
         self.ask_alone("skips");
+        self.all_heard();
     }
 
-    /// Whether the script is as long as it should be, its datagrams and the log's lines not counted.
+    /// Whether the script is as long as it should be, its datagrams, the log's lines and those that ask when a session was last heard not counted.
     pub(crate) fn full(&self) -> bool {
-        self.lines.len() - self.datagrams.lines - self.log.lines >= self.length
+        let beside = self.datagrams.lines + self.log.lines + self.heard.lines;
+
+        self.lines.len() - beside >= self.length
     }
 
-    /// Adds a line, now and then a datagram, lines of the log or skips behind it, and gives the oracle's answer to the line, if it is good.
+    /// Adds a line, now and then a datagram, lines of the log, skips or a last heard time behind it, and gives the oracle's answer to the line,
+    /// if it is good.
     pub(crate) fn ask(&mut self, line: impl Into<Vec<u8>>) -> Option<Answer> {
         let line = line.into();
         let answer = self.ask_alone(line.clone());
@@ -119,6 +126,7 @@ impl Maker {
             self.log_now_and_then();
         }
         self.skips_now_and_then(&line);
+        self.heard_now_and_then(&line, answer.is_some());
         answer
     }
 

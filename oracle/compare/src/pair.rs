@@ -1,5 +1,7 @@
 //! A pair of scripts: one list of calls, with extra wakings in one of the two; and the judgement of it by demand 3.
 
+use std::collections::BTreeSet;
+
 use oracle::{Answer, Call, Driver, Number, View};
 
 /// A call of a pair; an extra one is given to the woken tunnel only.
@@ -18,24 +20,29 @@ pub struct Pair {
 
 impl Pair {
     /// The lines that the tunnel without extra wakings is given.
-    pub(crate) fn plain(&self) -> Vec<Vec<u8>> {
-        self.lines(|step| !step.extra)
+    pub(crate) fn plain(&self, judgement: &Judgement) -> Vec<Vec<u8>> {
+        self.lines(judgement, |step| !step.extra)
     }
 
     /// The lines that the woken tunnel is given.
-    pub(crate) fn woken(&self) -> Vec<Vec<u8>> {
-        self.lines(|_| true)
+    pub(crate) fn woken(&self, judgement: &Judgement) -> Vec<Vec<u8>> {
+        self.lines(judgement, |_| true)
     }
 
-    /// The creation and the chosen steps as lines.
-    fn lines(&self, chosen: impl Fn(&Step) -> bool) -> Vec<Vec<u8>> {
-        let steps = self.steps.iter().filter(|step| chosen(step));
+    /// The creation and the chosen steps as lines, each shared call with the questions after it.
+    fn lines(&self, judgement: &Judgement, chosen: impl Fn(&Step) -> bool) -> Vec<Vec<u8>> {
+        let mut lines = vec![self.created.to_string().into_bytes()];
+        let steps = self.steps.iter().zip(&judgement.came);
 
-        [&self.created]
-            .into_iter()
-            .chain(steps.map(|step| &step.call))
-            .map(|call| call.to_string().into_bytes())
-            .collect()
+        for (step, came) in steps.filter(|(step, _)| chosen(step)) {
+            lines.push(step.call.to_string().into_bytes());
+            if let Came::Shared { heard, .. } = came {
+                let questions = heard.iter().map(|heard| heard.question().to_string());
+                lines.extend(questions.map(String::into_bytes));
+            }
+        }
+
+        lines
     }
 
     /// The interval of the persistent keepalive, or 0.
@@ -71,6 +78,17 @@ pub(crate) enum Standing {
     Different,
 }
 
+impl Standing {
+    /// The same, or different where a last heard time differs after the call.
+    pub(crate) fn unless_heard_differs(self, differs: bool) -> Self {
+        if differs {
+            return Standing::Different;
+        }
+
+        self
+    }
+}
+
 /// What came of one step.
 pub(crate) enum Came {
     Extra {
@@ -81,8 +99,23 @@ pub(crate) enum Came {
         plain: String,
         woken: String,
         greatest: u64,
+        heard: Vec<Heard>,
         standing: Standing,
     },
+}
+
+/// What both tunnels answer after a shared call when they are asked when the session with an index was last heard.
+pub(crate) struct Heard {
+    index: u32,
+    pub(crate) plain: String,
+    pub(crate) woken: String,
+}
+
+impl Heard {
+    /// What is asked.
+    pub(crate) fn question(&self) -> Call {
+        Call::Heard { index: self.index }
+    }
 }
 
 /// What came of each step of a pair on the Rust, and how often each of the three conditions was not kept.
@@ -92,12 +125,12 @@ pub struct Judgement {
 }
 
 impl Judgement {
-    /// The number of shared calls whose answers differ.
+    /// The number of shared calls whose answers differ, or after which a last heard time does.
     pub fn violations(&self) -> u64 {
         self.came.iter().filter(|came| is_violation(came)).count() as u64
     }
 
-    /// The step of the first shared call whose answers differ.
+    /// The step of the first of these calls.
     pub(crate) fn first_violation(&self) -> Option<usize> {
         self.came.iter().position(is_violation)
     }
@@ -110,7 +143,7 @@ impl Judgement {
     }
 }
 
-/// Whether a step is a shared call whose answers differ.
+/// Whether a step is a shared call whose answers differ, or after which a last heard time does.
 fn is_violation(came: &Came) -> bool {
     matches!(
         came,
@@ -121,7 +154,8 @@ fn is_violation(came: &Came) -> bool {
     )
 }
 
-/// Gives the pair to two tunnels of the Rust, compares the answers and tests the conditions along the woken run.
+/// Gives the pair to two tunnels of the Rust, compares the answers and, after each shared call, the last heard times, and tests the conditions
+/// along the woken run.
 pub fn judge(pair: &Pair) -> Judgement {
     let [mut plain, mut woken] = [Driver::new(), Driver::new()];
     for driver in [&mut plain, &mut woken] {
@@ -130,6 +164,7 @@ pub fn judge(pair: &Pair) -> Judgement {
     }
     let keepalive = pair.keepalive() > 0;
     let mut latest_extra = 0;
+    let mut held = BTreeSet::new();
     let mut judgement = Judgement {
         came: Vec::with_capacity(pair.steps.len()),
         broken: [0; 3],
@@ -146,7 +181,7 @@ pub fn judge(pair: &Pair) -> Judgement {
             extra(&mut woken, &step.call, &view, time, keepalive)
         } else {
             judgement.broken[2] += u64::from(time.is_some_and(|time| time < latest_extra));
-            shared([&mut plain, &mut woken], &step.call)
+            shared([&mut plain, &mut woken], &step.call, &mut held)
         };
         judgement.came.push(came);
     }
@@ -183,18 +218,40 @@ fn extra(woken: &mut Driver, call: &Call, view: &View, time: u64, keepalive: boo
     }
 }
 
-/// Gives a shared call to both tunnels.
-fn shared([plain, woken]: [&mut Driver; 2], call: &Call) -> Came {
-    let [plain, answer] =
-        [&mut *plain, &mut *woken].map(|driver| line_of(driver.call(call.clone())));
-    let greatest = view_of(woken).greatest;
-    let standing = standing(call, [plain.as_bytes(), answer.as_bytes()], greatest);
+/// Gives a shared call to both tunnels and asks when each session was last heard that either holds, or held after the shared call before.
+fn shared(drivers: [&mut Driver; 2], call: &Call, held: &mut BTreeSet<u32>) -> Came {
+    let [plain, woken] = drivers;
+    let ask = |driver: &mut Driver, call: &Call| line_of(driver.call(call.clone()));
+    let answers = [ask(plain, call), ask(woken, call)];
+    let views = [view_of(plain), view_of(woken)];
+    let greatest = views[1].greatest;
+    let sessions = views.iter().flat_map(|view| &view.sessions);
+    let holds: BTreeSet<u32> = sessions.map(|session| session.index).collect();
+
+    let asked = held.union(&holds).map(|index| {
+        let question = Call::Heard { index: *index };
+        Heard {
+            index: *index,
+            plain: ask(plain, &question),
+            woken: ask(woken, &question),
+        }
+    });
+    let heard: Vec<Heard> = asked.collect();
+    *held = holds;
+    let standing = standing(
+        call,
+        answers.each_ref().map(|line| line.as_bytes()),
+        greatest,
+    );
+    let equal = heard.iter().all(|heard| heard.plain == heard.woken);
+    let [plain, woken] = answers;
 
     Came::Shared {
         plain,
-        woken: answer,
+        woken,
         greatest,
-        standing,
+        heard,
+        standing: standing.unless_heard_differs(!equal),
     }
 }
 
@@ -229,4 +286,54 @@ fn line_of(answer: Result<Answer, Number>) -> String {
 /// What can be seen of a tunnel that was created.
 fn view_of(driver: &Driver) -> View {
     driver.view().expect("the tunnel was created")
+}
+
+#[cfg(test)]
+mod tests {
+    use super::*;
+
+    /// A tunnel with sessions, to which these lines were given.
+    fn driver(lines: &[&str]) -> Driver {
+        let mut driver = Driver::new();
+        for line in ["new 256 0 0", "hello 9 0 1", "hello 9 0 2"]
+            .iter()
+            .chain(lines)
+        {
+            driver.answer(line.as_bytes()).expect("a good line");
+        }
+
+        driver
+    }
+
+    #[test]
+    fn a_last_heard_time_that_differs_is_a_violation() {
+        let call = Call::Missing { index: 999 };
+        let mut held = BTreeSet::from([300]);
+        let batches = [["recv 258 1 3 0 d"], ["recv 258 1 4 0 d"]];
+        let [mut plain, mut woken] = batches.each_ref().map(|lines| driver(lines));
+
+        let came = shared([&mut plain, &mut woken], &call, &mut held);
+        assert!(is_violation(&came));
+        let Came::Shared { heard, .. } = came else {
+            panic!("a shared call");
+        };
+        let asked = heard
+            .iter()
+            .map(|heard| (heard.index, heard.plain.as_str(), heard.woken.as_str()));
+        assert!(asked.eq([
+            (257, "ok at 1", "ok at 1"),
+            (258, "ok at 3", "ok at 4"),
+            (300, "no 12", "no 12"),
+        ]));
+        assert_eq!(held, BTreeSet::from([257, 258]));
+    }
+
+    #[test]
+    fn an_index_that_one_tunnel_holds_is_a_violation() {
+        let [mut plain, mut woken] = [driver(&[]), driver(&["hello 9 0 2"])];
+        let call = Call::Missing { index: 999 };
+
+        let came = shared([&mut plain, &mut woken], &call, &mut BTreeSet::new());
+        assert!(is_violation(&came));
+    }
 }

@@ -5,7 +5,7 @@ use std::collections::BTreeMap;
 use oracle::{Call, Number};
 
 use crate::cut::{shrink, text};
-use crate::pair::{Came, Judgement, Met, Pair, Standing, Step, judge, standing};
+use crate::pair::{Came, Heard, Judgement, Met, Pair, Standing, Step, judge, standing};
 use crate::programs::{Output, run};
 use crate::tally::{Tally, list};
 use crate::times::SECOND;
@@ -52,6 +52,7 @@ struct Wakings {
 struct Count {
     shared: u64,
     both_come: u64,
+    heard: u64,
     violations: u64,
     pairs: u64,
 }
@@ -109,11 +110,15 @@ impl<'a> Pairing<'a> {
             match came {
                 Came::Extra { met, .. } => self.wakings.count(*met),
                 Came::Shared {
-                    plain, standing, ..
+                    plain,
+                    heard,
+                    standing,
+                    ..
                 } => {
                     self.shared
                         .count(step.call.to_string().as_bytes(), plain.as_bytes());
                     self.rust.count(*standing);
+                    self.rust.heard += heard.len() as u64;
                 }
             }
         }
@@ -131,7 +136,7 @@ impl<'a> Pairing<'a> {
 
     /// Keeps the shorter one of this pair and the shortest so far.
     fn keep_shortest(&mut self, pair: Pair) {
-        let size = |pair: &Pair| (pair.steps.len(), text(&pair.woken()).len());
+        let size = |pair: &Pair| (pair.steps.len(), text(&pair.woken(&judge(pair))).len());
 
         if self
             .shortest
@@ -144,8 +149,11 @@ impl<'a> Pairing<'a> {
 
     /// Gives the plain and the woken scripts of a batch to drive and compares the answers with each other and with the Rust's.
     fn ask_drive(&mut self, batch: &[Judged]) {
-        let of_all = |lines: fn(&Pair) -> Vec<Vec<u8>>| -> Vec<Vec<u8>> {
-            batch.iter().flat_map(|(_, pair, _)| lines(pair)).collect()
+        let of_all = |lines: fn(&Pair, &Judgement) -> Vec<Vec<u8>>| -> Vec<Vec<u8>> {
+            let scripts = batch
+                .iter()
+                .map(|(_, pair, judgement)| lines(pair, judgement));
+            scripts.flatten().collect()
         };
         let scripts = [of_all(Pair::plain), of_all(Pair::woken)];
         let outputs = scripts
@@ -181,7 +189,8 @@ impl<'a> Pairing<'a> {
         }
     }
 
-    /// Compares what drive answered to a step with what the Rust did, and its answers to a shared call with each other.
+    /// Compares what drive answered to a step with what the Rust did, and its answers to a shared call and to the questions after it with each
+    /// other.
     fn hold_step<'b>(
         &mut self,
         name: &str,
@@ -198,13 +207,24 @@ impl<'a> Pairing<'a> {
                 plain: rust,
                 woken: rust_woken,
                 greatest,
+                heard,
                 ..
             } => {
-                let answers =
-                    [plain.next(), woken.next()].map(|line| line.map_or(&[][..], Vec::as_slice));
+                let mut next =
+                    || [plain.next(), woken.next()].map(|line| line.map_or(&[][..], Vec::as_slice));
+                let answers = next();
                 self.hold(0, name, Some(answers[0]), Some(rust.as_bytes()));
                 self.hold(1, name, Some(answers[1]), Some(rust_woken.as_bytes()));
-                self.port.count(standing(&step.call, answers, *greatest));
+                let mut differs = false;
+                for rust in heard {
+                    let times = next();
+                    self.hold(0, name, Some(times[0]), Some(rust.plain.as_bytes()));
+                    self.hold(1, name, Some(times[1]), Some(rust.woken.as_bytes()));
+                    differs |= times[0] != times[1];
+                }
+                self.port.heard += heard.len() as u64;
+                let standing = standing(&step.call, answers, *greatest);
+                self.port.count(standing.unless_heard_differs(differs));
             }
         }
     }
@@ -231,6 +251,10 @@ impl<'a> Pairing<'a> {
         println!(
             "{} shared calls compared on the Rust and {} on drive, in {} pairs of scripts",
             self.rust.shared, self.port.shared, self.pairs
+        );
+        println!(
+            "{} last heard times compared after them on the Rust and {} on drive",
+            self.rust.heard, self.port.heard
         );
         self.wakings.report();
         println!(
@@ -396,16 +420,32 @@ fn print_pair(pair: &Pair) {
             Came::Extra { woken, .. } => println!("  + {}: {woken}", step.call),
             Came::Shared { plain, woken, .. } if plain == woken => {
                 println!("    {}: {plain}", step.call);
+                print_heard(came);
             }
             Came::Shared {
                 plain,
                 woken,
                 greatest,
                 ..
-            } => println!(
-                "    {}: plain {plain}, woken {woken} (greatest time {greatest})",
-                step.call
-            ),
+            } => {
+                println!(
+                    "    {}: plain {plain}, woken {woken} (greatest time {greatest})",
+                    step.call
+                );
+                print_heard(came);
+            }
         }
+    }
+}
+
+/// Prints the last heard times that differ after a shared call.
+fn print_heard(came: &Came) {
+    let Came::Shared { heard, .. } = came else {
+        return;
+    };
+
+    for heard in heard.iter().filter(|heard| heard.plain != heard.woken) {
+        let Heard { plain, woken, .. } = heard;
+        println!("      {}: plain {plain}, woken {woken}", heard.question());
     }
 }

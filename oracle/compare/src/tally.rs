@@ -3,7 +3,10 @@
 use std::collections::BTreeMap;
 use std::fmt;
 
-/// Counts of call words, refusal numbers, events, verdicts, skips, of the types read and the headers written, and of the log's callouts and records.
+use oracle::Call;
+
+/// Counts of call words, refusal numbers, events, verdicts, skips, last heard times, of the types read and the headers written, and of the log's
+/// callouts and records.
 #[derive(Default)]
 pub struct Tally {
     calls: u64,
@@ -12,6 +15,9 @@ pub struct Tally {
     events: BTreeMap<String, u64>,
     verdicts: BTreeMap<u64, u64>,
     skips: BTreeMap<&'static str, u64>,
+    heard: BTreeMap<&'static str, u64>,
+    /// The times of the handshake messages that made the tunnel's sessions, by the local index.
+    made: BTreeMap<u32, u64>,
     datagrams: BTreeMap<String, u64>,
     log: BTreeMap<String, u64>,
 }
@@ -20,8 +26,12 @@ impl Tally {
     /// Counts one line and the answer that both programs gave to it.
     pub fn count(&mut self, line: &[u8], answer: &[u8]) {
         self.calls += 1;
-        let word = word_of(line);
+        let call = oracle::read(line);
+        let word = word_of(line, call.as_ref());
         let answer = String::from_utf8_lossy(answer);
+        if let Some(call) = &call {
+            self.count_heard(call, &answer);
+        }
         let mut parts = answer.split(' ');
 
         match (parts.next(), word.as_str()) {
@@ -57,6 +67,29 @@ impl Tally {
         *self.words.entry(word).or_default() += 1;
     }
 
+    /// Counts the answer to a `heard`: none, the time the session was made, or a later one; notes when sessions are made.
+    fn count_heard(&mut self, call: &Call, answer: &str) {
+        let words: Vec<&str> = answer.split(' ').take(3).collect();
+
+        match (call, words.as_slice()) {
+            (Call::New { .. }, _) => self.made.clear(),
+            (Call::Resp { receiver, time, .. }, ["ok", ..]) => {
+                self.made.insert(*receiver, *time);
+            }
+            (Call::Hello { time, .. }, ["ok", "resp", local]) => {
+                self.made
+                    .extend(local.parse().ok().map(|local: u32| (local, *time)));
+            }
+            (Call::Heard { .. }, ["no", "12"]) => *self.heard.entry("none").or_default() += 1,
+            (Call::Heard { index }, ["ok", "at", at]) => {
+                let at_first = self.made.get(index).copied() == at.parse().ok();
+                let kind = if at_first { "at first" } else { "later" };
+                *self.heard.entry(kind).or_default() += 1;
+            }
+            _ => {}
+        }
+    }
+
     /// Counts a callout that was appended, or a walk with its callouts and records.
     fn count_log<'a>(&mut self, word: &str, mut parts: impl Iterator<Item = &'a str>) {
         if word == "append" {
@@ -89,8 +122,8 @@ fn skip_kind(word: &str) -> &'static str {
 }
 
 /// The name of a line's call, or a word for a line that cannot be read.
-fn word_of(line: &[u8]) -> String {
-    if oracle::read(line).is_none() {
+fn word_of(line: &[u8], call: Option<&Call>) -> String {
+    if call.is_none() {
         return "unreadable".to_string();
     }
     let text = String::from_utf8_lossy(line);
@@ -108,6 +141,7 @@ impl fmt::Display for Tally {
         writeln!(f, "events:    {}", list(&self.events))?;
         writeln!(f, "verdicts:  {}", list(&self.verdicts))?;
         writeln!(f, "skips:     {}", list(&self.skips))?;
+        writeln!(f, "heard:     {}", list(&self.heard))?;
         writeln!(f, "datagrams: {}", list(&self.datagrams))?;
         write!(f, "log:       {}", list(&self.log))
     }
@@ -121,4 +155,36 @@ pub(crate) fn list<K: fmt::Display>(counts: &BTreeMap<K, u64>) -> String {
         .collect();
 
     parts.join(", ")
+}
+
+#[cfg(test)]
+mod tests {
+    use super::*;
+
+    #[test]
+    fn last_heard_times_are_counted_by_whether_a_batch_moved_them() {
+        let mut tally = Tally::default();
+
+        for (line, answer) in [
+            ("heard 257", "no 2"),
+            ("new 256 0 0", "ok"),
+            ("heard 257", "no 12"),
+            ("hello 9 0 5", "ok resp 257 9"),
+            ("hello 9 3 6", "no 3"),
+            ("heard 257", "ok at 5"),
+            ("init 6", "ok init 258"),
+            ("resp 258 7 7 7", "no 7"),
+            ("resp 258 7 0 8", "ok key 7 0"),
+            ("heard 258", "ok at 8"),
+            ("recv 257 0 8 0 d", "ok 0"),
+            ("heard 257", "ok at 8"),
+            ("new 256 0 0", "ok"),
+            ("heard 257", "no 12"),
+            ("heard 258 0", "no 2"),
+        ] {
+            tally.count(line.as_bytes(), answer.as_bytes());
+        }
+
+        assert_eq!(list(&tally.heard), "at first 2, later 1, none 2");
+    }
 }

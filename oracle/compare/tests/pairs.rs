@@ -7,7 +7,7 @@ use oracle::{Call, Driver};
 
 /// The pairs of the first seeds.
 fn pairs(dropped: Option<usize>) -> impl Iterator<Item = Pair> {
-    (0..300).map(move |seed| make_pair(seed, 100, dropped))
+    (0..600).map(move |seed| make_pair(seed, 100, dropped))
 }
 
 #[test]
@@ -49,7 +49,7 @@ fn pairs_reach_every_call_and_refusal() {
         }
     }
 
-    assert_eq!(words.len(), 13, "{words:?}");
+    assert_eq!(words.len(), 14, "{words:?}");
     assert_eq!(refusals, (1..=13).collect());
 }
 
@@ -61,6 +61,24 @@ fn pairs_wake_between_a_batch_and_its_skips() {
     let woken = pairs(None).filter(|pair| {
         let mut threes = pair.steps.windows(3);
         threes.any(|three| is_batch(&three[0]) && three[1].extra && is_skips(&three[2]))
+    });
+    assert!(woken.count() > 10);
+}
+
+#[test]
+fn pairs_wake_between_a_batch_and_the_last_heard_time() {
+    let batch_of = |step: &Step| match step.call {
+        Call::Recv { index, .. } if !step.extra => Some(index),
+        _ => None,
+    };
+    let is_heard = |step: &Step, index: u32| step.call == Call::Heard { index };
+
+    let woken = pairs(None).filter(|pair| {
+        let mut threes = pair.steps.windows(3);
+        threes.any(|three| {
+            let index = batch_of(&three[0]).filter(|_| three[1].extra);
+            index.is_some_and(|index| is_heard(&three[2], index))
+        })
     });
     assert!(woken.count() > 10);
 }

@@ -1,10 +1,12 @@
 //! Makes sure that the scripts reach every call, every refusal, every event, every type of datagram, the edges of a young window,
-//! skips of every kind and every refusal of the log.
+//! skips and last heard times of every kind and every refusal of the log.
 
 use std::collections::BTreeSet;
 
-use compare::{Script, datagram_scripts, gap_scripts, log_scripts, make_script, short_log_scripts};
-use oracle::{Answer, Call, Driver};
+use compare::{
+    Exhaustive, Script, datagram_scripts, gap_scripts, log_scripts, make_script, short_log_scripts,
+};
+use oracle::{Answer, Call, Driver, Opening};
 
 /// What a range of seeds has met.
 #[derive(Default)]
@@ -59,7 +61,7 @@ fn scripts_reach_everything() {
         }
     }
 
-    assert_eq!(met.calls.len(), 23, "{:?}", met.calls);
+    assert_eq!(met.calls.len(), 24, "{:?}", met.calls);
     assert_eq!(
         met.refusals,
         (1..=19).filter(|number| *number != 14).collect()
@@ -340,6 +342,207 @@ fn gap_scripts_reach_skips_of_jumps_and_of_what_is_turned_down() {
     assert_eq!(met.kinds, kinds.into());
     assert_eq!(met.beside_a_jump, BTreeSet::from([7, 9, 10]));
     assert_eq!(met.after_refused, BTreeSet::from([2, 11, 12]));
+}
+
+/// What the questions when a session was last heard have met.
+#[derive(Default)]
+struct HeardMet {
+    kinds: BTreeSet<&'static str>,
+    /// What the batches before, for the same index, were turned down by.
+    after_refused: BTreeSet<u8>,
+}
+
+/// A line and what came of it.
+type Answered = (Option<Call>, Result<Answer, u8>);
+
+impl HeardMet {
+    /// Notes what a script's questions met.
+    fn note(&mut self, lines: &[Vec<u8>]) {
+        let mut driver = Driver::new();
+        let mut before: Answered = (None, Ok(Answer::None));
+        let mut gone: BTreeSet<u32> = BTreeSet::new();
+
+        for line in lines {
+            let call = oracle::read(line);
+            let answer = driver.answer(line);
+            let sessions = driver.view().map_or_else(Vec::new, |view| view.sessions);
+            gone.extend(sessions.iter().map(|session| session.index));
+            match call {
+                Some(Call::Heard { index }) => {
+                    self.note_heard(&driver, index, &answer, &before);
+                    if gone.contains(&index) && answer == Err(12) {
+                        self.kinds.insert("gone");
+                    }
+                }
+                Some(Call::Next | Call::Skips) => {}
+                _ => before = (call, answer),
+            }
+            if line.starts_with(b"hea") && oracle::read(line).is_none() {
+                self.kinds.insert("unreadable");
+            }
+        }
+    }
+
+    /// Notes the answer to a question, given the last line that was none and asked neither for the deadline nor for skips; the time lies from the session's first to the greatest one.
+    fn note_heard(
+        &mut self,
+        driver: &Driver,
+        index: u32,
+        answer: &Result<Answer, u8>,
+        before: &Answered,
+    ) {
+        let Some(view) = driver.view() else {
+            assert_eq!(*answer, Err(2));
+            self.kinds.insert("no tunnel");
+            return;
+        };
+        let session = view.sessions.iter().find(|held| held.index == index);
+        let Some(session) = session else {
+            assert_eq!(*answer, Err(12));
+            let slot = |other: u32| other % 8 == index % 8;
+            let filled = view.sessions.iter().any(|held| slot(held.index));
+            let kind = if filled {
+                "another index"
+            } else {
+                "no session"
+            };
+            self.kinds.insert(kind);
+            if view.expired {
+                self.kinds.insert("expired");
+            }
+            return;
+        };
+        assert_eq!(*answer, Ok(Answer::At(session.last_heard)));
+        assert!((session.established_at..=view.greatest).contains(&session.last_heard));
+
+        let later = session.last_heard > session.established_at;
+        self.kinds.insert(if later { "later" } else { "at first" });
+        let others = view.sessions.iter().filter(|held| held.index != index);
+        if later
+            && others
+                .clone()
+                .any(|held| held.last_heard > session.last_heard)
+        {
+            self.kinds.insert("another heard later");
+        }
+        self.note_after(session.last_heard, index, before);
+    }
+
+    /// Notes what came before a question that was answered with `time`.
+    fn note_after(&mut self, time: u64, index: u32, before: &Answered) {
+        match before {
+            (Some(Call::Recv { index: to, .. }), Err(number)) if *to == index => {
+                self.after_refused.insert(*number);
+            }
+            (
+                Some(Call::Recv {
+                    index: to,
+                    time: at,
+                    messages,
+                    ..
+                }),
+                Ok(Answer::Verdicts(verdicts)),
+            ) if *to == index => {
+                let committed = messages
+                    .iter()
+                    .zip(verdicts)
+                    .filter(|(_, verdict)| **verdict == 0);
+                let data = committed
+                    .clone()
+                    .any(|((_, opening), _)| *opening == Opening::Data);
+                let kind = match committed.count() {
+                    0 if messages.is_empty() => "after an empty batch",
+                    0 if time < *at => "after a batch that committed nothing",
+                    0 => "at the time of a batch that committed nothing",
+                    _ if data => "after data",
+                    _ => "after keepalives",
+                };
+                self.kinds.insert(kind);
+            }
+            (Some(Call::Wake { time: at, .. }), Ok(_)) if time < *at => {
+                self.kinds.insert("after a waking");
+            }
+            (Some(Call::Send { time: at, .. }), Ok(_)) if time < *at => {
+                self.kinds.insert("after a send");
+            }
+            _ => {}
+        }
+    }
+}
+
+/// What questions meet in scripts of every kind.
+const HEARD: [&str; 12] = [
+    "another heard later",
+    "another index",
+    "after a batch that committed nothing",
+    "after a send",
+    "after a waking",
+    "after an empty batch",
+    "after data",
+    "after keepalives",
+    "at first",
+    "gone",
+    "later",
+    "no session",
+];
+
+#[test]
+fn scripts_reach_last_heard_times_of_every_kind() {
+    let mut met = HeardMet::default();
+
+    for seed in 0..300 {
+        met.note(&make_script(seed, 150).lines);
+    }
+
+    for kind in HEARD
+        .into_iter()
+        .chain(["no tunnel", "unreadable", "expired"])
+    {
+        assert!(met.kinds.contains(kind), "{kind}");
+    }
+    assert_eq!(met.after_refused, BTreeSet::from([1, 2, 12, 13]));
+}
+
+#[test]
+fn every_manner_asks_for_last_heard_times() {
+    for manner in 0..10 {
+        let mut met = HeardMet::default();
+        for seed in 0..30 {
+            met.note(&make_script(10 * seed + manner, 150).lines);
+        }
+
+        for kind in ["at first", "later", "after data", "after keepalives"] {
+            assert!(met.kinds.contains(kind), "{manner}: {kind}");
+        }
+    }
+}
+
+#[test]
+fn gap_scripts_reach_last_heard_times_after_batches_of_every_kind() {
+    let mut met = HeardMet::default();
+
+    for (name, script) in gap_scripts() {
+        if name.contains("heard") {
+            met.note(&script.lines);
+        }
+    }
+
+    for kind in HEARD.into_iter().filter(|kind| *kind != "after a send") {
+        assert!(met.kinds.contains(kind), "{kind}");
+    }
+}
+
+#[test]
+fn all_words_of_three_letters_reach_last_heard_times() {
+    let mut met = HeardMet::default();
+
+    for script in Exhaustive::new(3) {
+        met.note(&script.lines);
+    }
+
+    for kind in ["after data", "at first", "later", "no session"] {
+        assert!(met.kinds.contains(kind), "{kind}");
+    }
 }
 
 #[test]

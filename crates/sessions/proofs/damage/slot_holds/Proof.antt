@@ -17,17 +17,21 @@ returns-3 : tie.Need-returns-3
 unfolding slotHolds
 returns-3 c = search (picks, needs)
 
+returns-4 : tie.Need-returns-4
+unfolding slotHolds
+returns-4 c = search (picks, needs)
+
 slot-of-requires : tie.Need-slot-of-requires
 slot-of-requires c κs = search needs
 
-returns-4 : tie.Need-returns-4
-unfolding slotHolds
-returns-4 c = search (picks, slots-tested, needs) depth 6
-
 returns-5 : tie.Need-returns-5
 unfolding slotHolds
-returns-5 c = search (picks, needs)
+returns-5 c = search (picks, slots-tested, needs) depth 7
+
+returns-6 : tie.Need-returns-6
+unfolding slotHolds
+returns-6 c = search (picks, needs)
 
 pub slot-holds-spec : {M : Type 1} → statement M
 slot-holds-spec =
-    tie.close (tie.spec returns returns-2 returns-3 slot-of-requires returns-4 returns-5)
+    tie.close (tie.spec returns returns-2 returns-3 returns-4 slot-of-requires returns-5 returns-6)
