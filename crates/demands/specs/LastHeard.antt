@@ -3,11 +3,9 @@ use mathlib.Core.Path.{_≡_}
 use mathlib.Core.Bool.{true}
 use mathlib.Core.List.{List, [], _∷_}
 use Prim.Native.Nat.{ℕ, _^_, _≤_, _<_}
-use lib.Dec.{eqb}
 use Rattle.base.specs.Choice.{choose}
-use Rattle.tunnel.specs.Answer.{numberOf}
 use Rattle.demands.specs.Calls.{Call, World, Reply, after, Creation, created, Good}
-use Rattle.demands.specs.Made.{Made, made, caseBatch, insertions, messageOf}
+use Rattle.demands.specs.Made.{Made, made, goodBatch, insertions, messageOf}
 use Rattle.demands.specs.Missing.{slotAfter}
 use Rattle.sessions.specs.Laws.{commits}
 use Rattle.sessions.specs.Sessions.{lastHeard}
@@ -17,10 +15,7 @@ use Rattle.sessions.specs.declared.session.Time.{Time}
 
 -- when a session was heard by a call, or else before it: at a batch for this session id, answered good, that gave a message verdict 0
 unfoldable pub hearing : ℕ → Time → Call → Reply → Time
-hearing id before call reply =
-    caseBatch call
-    (λ named now counters. choose (eqb named id) (choose (eqb (numberOf (reply .answer)) 0) (choose (commits (reply .verdicts)) (At now) before) before) before)
-    before
+hearing id before call reply = goodBatch id call reply (λ now counters. choose (commits (reply .verdicts)) (At now) before) before
 
 -- when a session was last heard by calls, or else before them
 unfoldable pub heardFrom : ℕ → Time → List Made → Time

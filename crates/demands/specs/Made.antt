@@ -44,6 +44,11 @@ module _ {A : Type 0} where
   caseBatch deadline f x = x
   caseBatch (missing index) f x = x
 
+  -- one value for each batch for this session id that was answered good, by its time and counters, one for every other call
+  abbrev pub goodBatch : (id : ℕ) → Call → Reply → ((now : ℕ) → List ℕ → A) → A → A
+  goodBatch id call reply f x =
+      caseBatch call (λ named now counters. choose (eqb named id) (choose (eqb (numberOf (reply .answer)) 0) (f now counters) x) x) x
+
   -- one value for a waking, one for every other call
   unfoldable pub caseWaking : Call → A → A → A
   caseWaking (timeout jitter now) y x = y

@@ -3,23 +3,18 @@ use mathlib.Core.Path.{_≡_}
 use mathlib.Core.Bool.{true, false}
 use mathlib.Core.List.{List, [], _∷_}
 use Prim.Native.Nat.{ℕ, _+_, _-_, _^_, _≤_, _<_}
-use lib.Dec.{eqb}
 use lib.ListN.{length, getD, take}
-use Rattle.base.specs.Choice.{choose}
 use Rattle.tunnel.specs.Answer.{numberOf}
 use Rattle.demands.specs.Calls.Call.{receive}
 use Rattle.demands.specs.Calls.{Call, World, Reply, step, after, Creation, created, Good, Expired}
-use Rattle.demands.specs.Made.{Made, made, caseBatch, insertions}
+use Rattle.demands.specs.Made.{Made, made, goodBatch, insertions}
 use Rattle.demands.specs.History.{recordedAll}
 use Rattle.sessions.specs.Sessions.{slotAt}
 use Rattle.window.specs.History.{member, expected, Skips}
 
 -- a session's history with what a call committed there: the counters that a batch for this session id, answered good, gave verdict 0
 unfoldable pub committing : ℕ → List ℕ → Call → Reply → List ℕ
-committing id history call reply =
-    caseBatch call
-    (λ named now counters. choose (eqb named id) (choose (eqb (numberOf (reply .answer)) 0) (recordedAll history counters (reply .verdicts)) history) history)
-    history
+committing id history call reply = goodBatch id call reply (λ now counters. recordedAll history counters (reply .verdicts)) history
 
 -- a session's history with what calls committed there, the counter committed last in front
 unfoldable pub historyFrom : ℕ → List ℕ → List Made → List ℕ
