@@ -1,6 +1,6 @@
 //! Answers each call of a script with the original tunnel, and adds document 01's checks 1, 2
-//! and 13, the greatest time and document 02's missing report, skips and last heard times; datagrams are read, headers written and a log kept
-//! beside it.
+//! and 13, the greatest time and document 02's missing report, skips and last heard times; the next index is told, datagrams are read, headers
+//! written and a log kept beside it.
 
 use std::fmt;
 use std::num::NonZeroUsize;
@@ -75,6 +75,10 @@ pub enum Answer {
     Expired,
     At(u64),
     Missing(u64),
+    Ahead {
+        index: u32,
+        tries: u8,
+    },
     Skips(Vec<u64>),
     Type1 {
         sender: u32,
@@ -120,6 +124,7 @@ impl fmt::Display for Answer {
             Answer::Expired => write!(f, "ok exp"),
             Answer::At(time) => write!(f, "ok at {time}"),
             Answer::Missing(count) => write!(f, "ok missing {count}"),
+            Answer::Ahead { index, tries } => write!(f, "ok ahead {index} {tries}"),
             Answer::Type1 { sender } => write!(f, "ok type 1 {sender}"),
             Answer::Type2 { sender, receiver } => write!(f, "ok type 2 {sender} {receiver}"),
             Answer::Type3 { receiver } => write!(f, "ok type 3 {receiver}"),
@@ -243,6 +248,21 @@ impl Driver {
         self.held.as_ref().map(Held::view)
     }
 
+    /// The most recently allocated local index, if there is a tunnel.
+    pub fn last_index(&self) -> Option<u32> {
+        let held = self.held.as_ref()?;
+
+        Some(held.tunnel.sessions().last_index())
+    }
+
+    /// The local index of the newest initiation that is queued.
+    pub fn newest_initiation(&mut self) -> Option<u32> {
+        let held = self.held.as_mut()?;
+
+        held.tunnel
+            .newest_initiation(|datagram| number_at(datagram, 4))
+    }
+
     /// What can be seen of the log, for whoever makes scripts.
     pub fn log(&self) -> LogView<'_> {
         LogView {
@@ -325,6 +345,7 @@ impl Held {
             Call::Next => Ok(self.next()),
             Call::Missing { index } => self.missing(index),
             Call::Heard { index } => self.heard(index),
+            Call::Ahead => Ok(self.ahead()),
             Call::Skips => Ok(self.skips()),
             Call::Split {
                 peer,
@@ -554,6 +575,13 @@ impl Held {
         let committed = self.recount.last_heard(session.id);
 
         committed.unwrap_or_else(|| self.time(session.established_at))
+    }
+
+    /// The local index that the next allocation would give, and the numbers it would take.
+    fn ahead(&mut self) -> Answer {
+        let (index, tries) = self.tunnel.sessions_mut().ahead();
+
+        Answer::Ahead { index, tries }
     }
 
     /// The skips of the last batch that was answered good, if there was one.
@@ -1005,6 +1033,80 @@ mod tests {
         held.recv(258, 1, 8, data()).expect("a verdict");
 
         assert_eq!(held.heard(257), Ok(Answer::At(2)));
+    }
+
+    /// A tunnel whose session 257 is the current one and whose last index is `last`.
+    fn current_257(last: u32) -> Held {
+        let mut held = tunnel();
+        held.hello(9, 0, 0).expect("a session");
+        held.recv(257, 0, 0, vec![(0, Opening::Data)])
+            .expect("a verdict");
+        while held.tunnel.sessions().last_index() != last {
+            held.hello(9, 3, 0).expect_err("a wrong key");
+        }
+
+        held
+    }
+
+    #[test]
+    fn two_numbers_are_taken_just_where_the_following_slot_is_the_current_one() {
+        for last in (256..512).filter(|last| last % 8 != 1 || *last == 257) {
+            let mut held = current_257(last);
+            let two = last % 8 == 0;
+            let index = 256 + (last + 1 + u32::from(two)) % 256;
+            let tries = 1 + u8::from(two);
+
+            assert_eq!(held.ahead(), Answer::Ahead { index, tries }, "{last}");
+            assert_eq!(held.tunnel.sessions().last_index(), last);
+        }
+    }
+
+    #[test]
+    fn a_selected_session_that_was_emptied_since_takes_one_number() {
+        let one = Answer::Ahead {
+            index: 265,
+            tries: 1,
+        };
+        let two = Answer::Ahead {
+            index: 266,
+            tries: 2,
+        };
+        let current = Index::from_peer(257);
+        let [mut empty, mut renamed] = [current_257(264), current_257(264)];
+        assert_eq!([empty.ahead(), renamed.ahead()], [two.clone(), two]);
+
+        empty.tunnel.sessions_mut().empty(current);
+        renamed
+            .tunnel
+            .sessions_mut()
+            .rename(current, Index::from_peer(249));
+        assert_eq!(empty.tunnel.sessions().current_index(), None);
+        assert_eq!(renamed.tunnel.sessions().current_index(), None);
+        assert_eq!([empty.ahead(), renamed.ahead()], [one.clone(), one]);
+        assert_eq!(empty.init(0), Ok(Answer::Initiation { local: 265 }));
+        assert_eq!(renamed.restart(0), Ok(Answer::Initiation { local: 265 }));
+    }
+
+    #[test]
+    fn asking_ahead_leaves_the_queued_events_and_the_last_index() {
+        let mut held = tunnel();
+        held.init(0).expect("an initiation");
+        for time in 1..=20 {
+            held.wake(0, time * 5_000_000_000).expect("a waking");
+        }
+        let newest = held.tunnel.newest_initiation(|d| number_at(d, 4));
+        let last = held.tunnel.sessions().last_index();
+        held.ahead();
+        let indices: Vec<u32> = std::iter::from_fn(|| match held.event() {
+            Answer::Initiation { local } => Some(local),
+            _ => None,
+        })
+        .collect();
+
+        assert_eq!(newest, indices.last().copied());
+        assert_eq!(newest, Some(last));
+        assert!(indices.windows(2).all(|pair| pair[0] + 1 == pair[1]));
+        assert!(indices.len() > 2, "{indices:?}");
     }
 
     #[test]

@@ -78,6 +78,7 @@ pub enum Call {
     Heard {
         index: u32,
     },
+    Ahead,
     Skips,
     Split {
         peer: u32,
@@ -185,6 +186,7 @@ fn read_call(words: &mut Words<'_>) -> Option<Call> {
         b"heard" => Call::Heard {
             index: words.number_32()?,
         },
+        b"ahead" => Call::Ahead,
         b"skips" => Call::Skips,
         b"split" => Call::Split {
             peer: words.number_32()?,

@@ -1,4 +1,4 @@
-//! A call's time, and its line as a script has it; reports and bytes as lines have them.
+//! A call's time, whether it may allocate an index, and its line as a script has it; reports and bytes as lines have them.
 
 use std::fmt;
 
@@ -20,6 +20,14 @@ impl Call {
         self
     }
 
+    /// Whether the call may allocate a local index.
+    pub fn may_allocate(&self) -> bool {
+        matches!(
+            self,
+            Call::Init { .. } | Call::Restart { .. } | Call::Hello { .. } | Call::Wake { .. }
+        )
+    }
+
     /// The place of the call's time.
     fn time_mut(&mut self) -> Option<&mut u64> {
         match self {
@@ -37,6 +45,7 @@ impl Call {
             | Call::Next
             | Call::Missing { .. }
             | Call::Heard { .. }
+            | Call::Ahead
             | Call::Skips
             | Call::Split { .. }
             | Call::Datagram { .. }
@@ -99,6 +108,7 @@ impl fmt::Display for Call {
             Call::Next => write!(f, "next"),
             Call::Missing { index } => write!(f, "missing {index}"),
             Call::Heard { index } => write!(f, "heard {index}"),
+            Call::Ahead => write!(f, "ahead"),
             Call::Skips => write!(f, "skips"),
             Call::Split {
                 peer,

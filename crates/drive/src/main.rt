@@ -14,6 +14,7 @@ use script::log_line::first_log;
 use script::log_line::put_log;
 use script::skips::Skips;
 use script::skips::skips_after;
+use sessions::sessions::Ahead;
 use text::gather::Gathered;
 use text::gather::newline;
 use tunnel::answer::Answer;
@@ -86,6 +87,7 @@ fn answer(
     console: Console,
     line: Line,
     answer: Answer,
+    ahead: Ahead,
     verdicts: &[u8],
     skips: Skips,
     list: &[u64],
@@ -96,7 +98,7 @@ fn answer(
     Console {
         started: starts_with(console.started, line),
         gathered: Gathered::new(),
-        written: put_line(out, at, line, answer, verdicts, skips, list, bytes),
+        written: put_line(out, at, line, answer, ahead, verdicts, skips, list, bytes),
     }
 }
 
@@ -112,12 +114,14 @@ fn settle(
 ) -> Progress {
     let tunnel = answered.tunnel;
     let reply = answered.answer;
+    let sessions = tunnel.control.sessions;
     let before = progress.skips;
     let skips = skips_after(before, asked, reply);
     let after = answer(
         progress.console,
         asked,
         reply,
+        sessions.ahead(),
         verdicts,
         skips,
         list,

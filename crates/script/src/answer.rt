@@ -7,6 +7,7 @@ use crate::skips::put_skips;
 use sessions::range::Range;
 use sessions::range::Split;
 use sessions::session::Time;
+use sessions::sessions::Ahead;
 use text::text::put;
 use text::text::put_number;
 use text::text::put_text;
@@ -228,12 +229,20 @@ fn put_received(
     put_batch(out, at, answer, &verdicts[..messages])
 }
 
+// Puts the index told ahead and the numbers that its allocation takes.
+fn put_ahead(out: &mut [u8], at: usize, ahead: Ahead) -> usize {
+    let next = put_text(out, at, b"ok ahead");
+    let second = put_number(out, next, ahead.index as u64);
+    put_number(out, second, ahead.tries as u64)
+}
+
 // Puts what a line's call answered.
 fn put_reply(
     out: &mut [u8],
     at: usize,
     line: Line,
     answer: Answer,
+    ahead: Ahead,
     verdicts: &[u8],
     skips: Skips,
     list: &[u64],
@@ -258,6 +267,9 @@ fn put_reply(
     if let Line::Skips = line {
         return put_skips(out, at, skips, list);
     }
+    if let Line::Ahead = line {
+        return put_ahead(out, at, ahead);
+    }
     if let Line::Datagram { len } = line {
         return put_datagram(out, at, len, bytes);
     }
@@ -273,11 +285,12 @@ pub fn put_line(
     at: usize,
     line: Line,
     answer: Answer,
+    ahead: Ahead,
     verdicts: &[u8],
     skips: Skips,
     list: &[u64],
     bytes: &[u8],
 ) -> usize {
-    let end = put_reply(out, at, line, answer, verdicts, skips, list, bytes);
+    let end = put_reply(out, at, line, answer, ahead, verdicts, skips, list, bytes);
     put(out, end, b'\n')
 }

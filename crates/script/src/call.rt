@@ -116,8 +116,8 @@ fn call_receive(
     )
 }
 
-// Makes a line's call. A line that cannot be read is turned down; a split, the skips, a datagram, a header and the log ask nothing
-// of the tunnel.
+// Makes a line's call. A line that cannot be read is turned down; a split, the skips, the index told ahead, a datagram, a header and
+// the log are no calls of the tunnel.
 pub fn call(
     tunnel: Tunnel,
     line: Line,
@@ -165,6 +165,7 @@ pub fn call(
             at: _,
         }
         | Line::Skips
+        | Line::Ahead
         | Line::Datagram { len: _ }
         | Line::Header {
             receiver: _,

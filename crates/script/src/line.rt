@@ -76,6 +76,7 @@ pub enum Line {
         at: u64,
     },
     Skips,
+    Ahead,
     // The datagram stands in the list that was lent: its first so many bytes.
     Datagram {
         len: usize,
@@ -163,6 +164,7 @@ fn line_of(name: Name, n: Numbers, held: usize) -> Line {
         Name::Next => Line::Session(SessionCall::Next),
         Name::Missing => Line::Session(SessionCall::Missing { index }),
         Name::Heard => Line::Session(SessionCall::Heard { index }),
+        Name::Ahead => Line::Ahead,
         Name::Split => Line::Split {
             peer: index,
             first: n.second,

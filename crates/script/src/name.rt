@@ -18,6 +18,7 @@ pub enum Name {
     Next,
     Missing,
     Heard,
+    Ahead,
     Split,
     Skips,
     Datagram,
@@ -97,6 +98,9 @@ fn question_name(word: &[u8]) -> Name {
     }
     if same(word, b"heard") {
         return Name::Heard;
+    }
+    if same(word, b"ahead") {
+        return Name::Ahead;
     }
     if same(word, b"split") {
         return Name::Split;

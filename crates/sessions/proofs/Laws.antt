@@ -12,18 +12,18 @@ use Rattle.base.specs.Lists.{zeros}
 use Rattle.base.specs.Sums.{sum}
 use Rattle.window.specs.Window.{limit, bitAt, checkBit}
 use Rattle.sessions.specs.Batch.{receivingSession}
-use Rattle.sessions.specs.Laws.{SlotsApart, NextIndexLaw, EmptyLaw, LookupLaw, SlotLaw, WholeLaw, ExpiryLaw, FitsLaw, LookLaw, NextLaw, RejectedLaw, EmptyBatchLaw, HeardLaw, ReserveLaw, SplitLaw, InSlot, MissingLaw, NoReportLaw, MissingExample, expects70, with70, store70}
+use Rattle.sessions.specs.Laws.{SlotsApart, NextIndexLaw, NextIndexExample, selecting, EmptyLaw, LookupLaw, SlotLaw, WholeLaw, ExpiryLaw, FitsLaw, LookLaw, NextLaw, RejectedLaw, EmptyBatchLaw, HeardLaw, ReserveLaw, SplitLaw, InSlot, MissingLaw, NoReportLaw, MissingExample, expects70, with70, store70}
 use Rattle.sessions.specs.declared.batch.Progress.{Progress}
 use Rattle.sessions.specs.Reservations.{granted, ReservationLaw}
-use Rattle.sessions.specs.Index.{slotOf}
-use Rattle.sessions.specs.Cases.{caseFound}
-use Rattle.sessions.specs.Sessions.{inCurrentSlot, newSessions, emptySlots, put, inSlotOf, get, missing}
+use Rattle.sessions.specs.Index.{slotOf, wrappingIncrement}
+use Rattle.sessions.specs.Cases.{caseFound, caseSelected}
+use Rattle.sessions.specs.Sessions.{newSessions, emptySlots, inSlotOf, get, put, currentOf, inCurrentSlot, ahead, nextIndex, select, emptied, missing}
 use Rattle.sessions.specs.Store.{slotWords, missingOf}
 use Rattle.sessions.specs.declared.sessions.Missing.the-variants.{Count}
 use Rattle.sessions.specs.declared.session.Session.{Session}
 use Rattle.sessions.specs.declared.sessions.Sessions.{Sessions}
 use Rattle.sessions.proofs.Apart.{kept-insert, kept-expire}
-use Rattle.sessions.proofs.Indices.{first, takes-first, takes-second, other-slot, same-upper, goes-on-from}
+use Rattle.sessions.proofs.Indices.{first, takes-two, takes-one, moves, other-slot}
 use Rattle.sessions.proofs.Heard.{heard-by, in-heard, none-heard}
 use Rattle.sessions.proofs.Lookups.{got-slot, current-slot, received-slot}
 use Rattle.sessions.proofs.Looks.{look-numbers}
@@ -59,15 +59,33 @@ slots-apart s store slot =
       expiry = λ now e. kept-expire s store slot now e;
     }
 
--- the index allocated next
+-- the index that the next allocation gives
 pub next-index-law : (s : Sessions) → NextIndexLaw s
+unfolding nextIndex
 next-index-law s =
+    let m = moves s (inCurrentSlot s (first s)) refl in
     record {
-      apart = λ x c. other-slot s x c (inCurrentSlot s (first s)) refl;
-      one = takes-first s;
-      two = takes-second s;
-      upper = same-upper s (inCurrentSlot s (first s)) refl;
-      goes-on = goes-on-from s;
+      two = takes-two s;
+      one = takes-one s;
+      low = m .low;
+      upper = m .upper;
+      apart = other-slot s (inCurrentSlot s (first s)) refl;
+      given = refl;
+      stored = refl;
+    }
+
+pub next-index-example : NextIndexExample
+unfolding selecting newSession emptySession newSessions emptySlots put select emptied inSlotOf get currentOf inCurrentSlot ahead wrappingIncrement caseFound caseSelected choose
+next-index-example =
+    record {
+      taken = record { selected = refl; there = record { stored = refl; filled = refl; named = refl }; following = refl };
+      two = refl;
+      one = refl;
+      empty = refl;
+      replaced = refl;
+      wraps = refl;
+      over = refl;
+      after = refl;
     }
 
 -- the record of an empty slot

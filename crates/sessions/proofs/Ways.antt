@@ -22,8 +22,9 @@ use Rattle.sessions.specs.declared.sessions.Found.the-variants.{Nothing,
 use Rattle.sessions.specs.declared.sessions.Selected.the-variants.{Unset}
 use Rattle.sessions.specs.declared.sessions.Missing.the-variants.{Refused, Count}
 use Rattle.sessions.specs.declared.sessions.Sessions.{Sessions}
+use Rattle.sessions.specs.declared.sessions.Ahead.{Ahead}
 use Rattle.sessions.specs.declared.sessions.Expired.{Expired}
-use Rattle.sessions.specs.Sessions.{expiring, ring, withSlots, withCurrent, withLastIndex, withInserted, slotAt, emptySlots, newSessions, inSlotOf, get, put, inCurrentSlot, indexAfter, nextIndex, inserting, insert, isIndex, clear, emptied, expiredSlot, discard, expireSlot, expire, missing}
+use Rattle.sessions.specs.Sessions.{expiring, ring, withSlots, withCurrent, withLastIndex, withInserted, slotAt, emptySlots, newSessions, inSlotOf, get, put, inCurrentSlot, told, ahead, nextIndex, inserting, insert, isIndex, clear, emptied, expiredSlot, discard, expireSlot, expire, missing}
 use Rattle.sessions.specs.Cases.{caseFound}
 
 -- an empty slot's record, made from a new session
@@ -73,14 +74,18 @@ module _ (s : Sessions) where
 
   -- one number taken, or two
   module _ (first : ℕ) (f : Bool) (one : first ≡ wrappingIncrement (s .«last_index»)) (at : f ≡ inCurrentSlot s first) where
-    pub takes-two : (second : ℕ) → f ≡ true → second ≡ wrappingIncrement first
-        → record { sessions = withLastIndex s second; index = second } ≡ nextIndex s
-    unfolding nextIndex indexAfter choose
+    pub takes-two : (second : ℕ) → f ≡ true → second ≡ wrappingIncrement first → told second 2 ≡ ahead s
+    unfolding ahead choose
     takes-two second t e = rw (← one, ← at, t, ← e)
 
-    pub takes-one : f ≡ false → record { sessions = withLastIndex s first; index = first } ≡ nextIndex s
-    unfolding nextIndex indexAfter choose
+    pub takes-one : f ≡ false → told first 1 ≡ ahead s
+    unfolding ahead choose
     takes-one t = rw (← one, ← at, t)
+
+  -- the number told allocated
+  pub allocates : (a : Ahead) → a ≡ ahead s → record { sessions = withLastIndex s (a .index); index = a .index } ≡ nextIndex s
+  unfolding nextIndex
+  allocates a e = rw e
 
   module _ (store : List ℕ) where
     -- a store of another length leaves all as it is

@@ -1,4 +1,4 @@
--- What follows from the definitions: what the lookups find, which slots a call touches, how many words it leaves, which index is allocated, which
+-- What follows from the definitions: what the lookups find, which slots a call touches, how many words it leaves, which index is told ahead and allocated, which
 -- lists make a batch, what a batch leaves that is turned down or empty, when a session was last heard, which numbers an early look gives, which
 -- counters a missing report counts, which are left to grant, and how a range is cut.
 use mathlib.Core.Path.{_≡_}
@@ -7,17 +7,18 @@ use mathlib.Core.List.{List, [], _∷_, _++_}
 use mathlib.Core.Logic.{_⊎_}
 use lib.Dec.{eqb}
 use lib.ListN.{length, getD}
-use Prim.Native.Nat.{ℕ, _+_, _-_, _/_, _^_, _≤_, _<_, min}
+use Prim.Native.Nat.{ℕ, _+_, _-_, _/_, _%_, _^_, _≤_, _<_, min}
 use Rattle.base.specs.Choice.{choose}
 use Rattle.base.specs.Lists.{zeros}
 use Rattle.base.specs.Sums.{sum}
 use Rattle.sessions.specs.declared.session.Session.{Session}
 use Rattle.sessions.specs.declared.sessions.Found.the-variants.{Nothing, Got}
 use Rattle.sessions.specs.declared.sessions.Missing.the-variants.{Refused, Count}
+use Rattle.sessions.specs.declared.sessions.Selected.the-variants.{Index}
 use Rattle.sessions.specs.declared.sessions.Sessions.{Sessions}
-use Rattle.sessions.specs.Index.{slotOf, wrappingIncrement}
+use Rattle.sessions.specs.Index.{slotOf}
 use Rattle.sessions.specs.Store.{slotWords, putSlot}
-use Rattle.sessions.specs.Sessions.{slotAt, get, currentOf, sendingSession, inCurrentSlot, nextIndex, insert, clear, expiredSlot, noneExpired, expiring, expire, put, newSessions, lastHeard, missing}
+use Rattle.sessions.specs.Sessions.{withLastIndex, slotAt, get, currentOf, told, ahead, nextIndex, insert, sendingSession, select, clear, emptied, expiredSlot, noneExpired, expiring, expire, put, newSessions, lastHeard, missing}
 use Rattle.sessions.specs.Batch.{fits, finishAll, receivingSession, receive}
 use Rattle.window.specs.Window.{limit, bitAt}
 use Rattle.sessions.specs.declared.batch.Progress.{Progress}
@@ -47,23 +48,49 @@ pub record SlotsApart (s : Sessions) (store : List ℕ) (slot : ℕ) : Type 0 wh
   -- an expiry where this slot is not due
   pub expiry : (now : ℕ) → expiredSlot s slot now ≡ false → Kept s (expire s store now .expired .sessions) store (expire s store now .store) slot
 
--- The index allocated next:
-pub record NextIndexLaw (s : Sessions) : Type 0 where
-  -- it never has the slot of the current session
-  pub apart : (session : Session) → currentOf s ≡ Got session → slotOf (nextIndex s .index) ≡ slotOf (session .«receiving_index») → ⊥
-  -- it is the following number where that has not the current session's slot, else the one after it
-  pub one : inCurrentSlot s (wrappingIncrement (s .«last_index»)) ≡ false → nextIndex s .index ≡ wrappingIncrement (s .«last_index»)
-  pub two : inCurrentSlot s (wrappingIncrement (s .«last_index»)) ≡ true → nextIndex s .index ≡ wrappingIncrement (wrappingIncrement (s .«last_index»))
-  -- the upper 24 bits stay
-  pub upper : nextIndex s .index / 256 ≡ s .«last_index» / 256
-  -- the next allocation goes on from it
-  pub goes-on : nextIndex s .sessions .«last_index» ≡ nextIndex s .index
-
 -- a filled slot holds a session with this index
 pub record InSlot (s : Sessions) (index : ℕ) (x : Session) : Type 0 where
   pub stored : slotAt s (slotOf index) ≡ x
   pub filled : x .filled ≡ true
   pub named : x .«receiving_index» ≡ index
+
+-- The following number's slot is the current session's: the session with the selected index fills its slot, and the following number has that slot too.
+pub record SlotTaken (s : Sessions) (index : ℕ) (x : Session) : Type 0 where
+  pub selected : s .current ≡ Index index
+  pub there : InSlot s index x
+  pub following : index % 8 ≡ (s .«last_index» + 1) % 8
+
+-- The index that the next allocation gives:
+pub record NextIndexLaw (s : Sessions) : Type 0 where
+  -- it takes two numbers where the following one's slot is the current session's, and else one
+  pub two : (index : ℕ) (x : Session) → SlotTaken s index x → ahead s .tries ≡ 2
+  pub one : ((index : ℕ) (x : Session) → SlotTaken s index x → ⊥) → ahead s .tries ≡ 1
+  -- it is just so many numbers on in its low byte, and the upper 24 bits stay
+  pub low : ahead s .index % 256 ≡ (s .«last_index» + ahead s .tries) % 256
+  pub upper : ahead s .index / 256 ≡ s .«last_index» / 256
+  -- it never has the slot of the current session
+  pub apart : (index : ℕ) (x : Session) → s .current ≡ Index index → InSlot s index x → ahead s .index % 8 ≡ index % 8 → ⊥
+  -- the allocation gives it, keeps it as the last one and changes nothing else
+  pub given : nextIndex s .index ≡ ahead s .index
+  pub stored : nextIndex s .sessions ≡ withLastIndex s (ahead s .index)
+
+-- sessions with one of this index, which is selected, and with another index last allocated
+unfoldable pub selecting : (index last : ℕ) → Sessions
+selecting index last = select (put (newSessions last) (newSession index 9 Initiator 0)) index
+
+-- One number taken, and two:
+pub record NextIndexExample : Type 0 where
+  -- the current session has the following number's slot, or another one
+  pub taken : SlotTaken (selecting 1 0) 1 (newSession 1 9 Initiator 0)
+  pub two : ahead (selecting 1 0) ≡ told 2 2
+  pub one : ahead (selecting 1 1) ≡ told 2 1
+  -- the selected session's slot is emptied, or has a session of another index
+  pub empty : ahead (emptied (selecting 1 0) 1) ≡ told 1 1
+  pub replaced : ahead (put (selecting 1 0) (newSession 9 9 Initiator 0)) ≡ told 1 1
+  -- 511 is followed by 256: where that is given, is passed over, and comes after a number passed over
+  pub wraps : ahead (newSessions 511) ≡ told 256 1
+  pub over : ahead (selecting 256 511) ≡ told 257 2
+  pub after : ahead (selecting 511 510) ≡ told 256 2
 
 -- A session may send at this time: a counter below 2^64 - 8,193 is left, it is younger than 180 s, and at most 170 s old where this tunnel
 -- initiated it.

@@ -22,6 +22,7 @@ use Rattle.sessions.specs.declared.sessions.Selected.the-variants.{Unset
 use Rattle.sessions.specs.declared.sessions.Missing.{Missing}
 use Rattle.sessions.specs.declared.sessions.Missing.the-variants.{Refused, Count}
 use Rattle.sessions.specs.declared.sessions.Sessions.{Sessions}
+use Rattle.sessions.specs.declared.sessions.Ahead.{Ahead}
 use Rattle.sessions.specs.declared.sessions.Allocated.{Allocated}
 use Rattle.sessions.specs.declared.sessions.Expired.{Expired}
 
@@ -82,16 +83,20 @@ currentOf s = caseSelected (s .current) Nothing (λ index. get s index)
 unfoldable pub inCurrentSlot : Sessions → ℕ → Bool
 inCurrentSlot s index = caseFound (currentOf s) false (λ session. eqb (slotOf (session .«receiving_index»)) (slotOf index))
 
--- the number allocated: the following one, or the one after it where that has the current session's slot
-unfoldable pub indexAfter : Sessions → ℕ
-indexAfter s =
+-- an index, and how many numbers its allocation takes
+abbrev pub told : (index tries : ℕ) → Ahead
+told index tries = record { index = index; tries = tries }
+
+-- what the next allocation gives: the following number, or the one after it where that has the current session's slot
+unfoldable pub ahead : Sessions → Ahead
+ahead s =
     choose (inCurrentSlot s (wrappingIncrement (s .«last_index»)))
-    (wrappingIncrement (wrappingIncrement (s .«last_index»)))
-    (wrappingIncrement (s .«last_index»))
+    (told (wrappingIncrement (wrappingIncrement (s .«last_index»))) 2)
+    (told (wrappingIncrement (s .«last_index»)) 1)
 
 -- a local index allocated for a new session
 unfoldable pub nextIndex : Sessions → Allocated
-nextIndex s = record { sessions = withLastIndex s (indexAfter s); index = indexAfter s }
+nextIndex s = record { sessions = withLastIndex s (ahead s .index); index = ahead s .index }
 
 -- the sessions with a new one, which gets the count of insertions as its id
 unfoldable pub inserting : Sessions → Session → Sessions

@@ -7,7 +7,7 @@ ghost use Rattle.sessions.specs.Reservations.{ReservationLaw};
 ghost use lib.ListN.{length};
 ghost use Rattle.sessions.specs.declared.batch.Progress.{Progress};
 ghost use Rattle.sessions.specs.declared.sessions.Sessions.{Sessions};
-ghost use Rattle.sessions.specs.Laws.{SlotsApart, NextIndexLaw, EmptyLaw, LookupLaw, SlotLaw, WholeLaw, ExpiryLaw, FitsLaw, LookLaw, NextLaw, RejectedLaw, EmptyBatchLaw, HeardLaw, ReserveLaw, SplitLaw, InSlot, MissingLaw, NoReportLaw, MissingExample};
+ghost use Rattle.sessions.specs.Laws.{SlotsApart, NextIndexLaw, NextIndexExample, EmptyLaw, LookupLaw, SlotLaw, WholeLaw, ExpiryLaw, FitsLaw, LookLaw, NextLaw, RejectedLaw, EmptyBatchLaw, HeardLaw, ReserveLaw, SplitLaw, InSlot, MissingLaw, NoReportLaw, MissingExample};
 ghost use Rattle.sessions.specs.declared.range.Range.{Range};
 
 // The counters that a session grants to any list of reservations are 0, 1, 2 on, all below the limit.
@@ -20,9 +20,14 @@ pub fn slots_apart()
     ensures { λ r. ⌜ ((s : Sessions) (store : List ℕ) (slot : ℕ) → SlotsApart s store slot) ⌝ }
 {}
 
-// The index allocated next is one or two numbers on, and never has the current session's slot.
+// The next allocation takes two numbers where the following one's slot is the current session's, else one, and gives what is told ahead.
 pub fn next_index_law()
     ensures { λ r. ⌜ ((s : Sessions) → NextIndexLaw s) ⌝ }
+{}
+
+// Allocations that take one number and two, also where the low byte wraps and where the current session was emptied.
+pub fn next_index_example()
+    ensures { λ r. ⌜ NextIndexExample ⌝ }
 {}
 
 // The record of an empty slot is not filled.

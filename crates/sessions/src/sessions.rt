@@ -12,7 +12,7 @@ ghost use mathlib.Core.Path.{_≡_};
 ghost use Prim.Native.Nat.{_<_};
 ghost use lib.ListN.{length};
 ghost use Rattle.sessions.specs.Store.{Leaves};
-ghost use Rattle.sessions.specs.Sessions.{TimesWithin, newSessions, inSlotOf, get, put, currentOf, inCurrentSlot, nextIndex, insert, usable, sendingSession, isIndex, select, setCurrent, clear, emptied, expiredSlot, noneExpired, discard, expiring, expireSlot, expire, isEmpty, slotExpiry, nextExpiry, lastHeard, missing};
+ghost use Rattle.sessions.specs.Sessions.{TimesWithin, newSessions, inSlotOf, get, put, currentOf, inCurrentSlot, ahead, nextIndex, insert, usable, sendingSession, isIndex, select, setCurrent, clear, emptied, expiredSlot, noneExpired, discard, expiring, expireSlot, expire, isEmpty, slotExpiry, nextExpiry, lastHeard, missing};
 
 // What a lookup answers.
 pub enum Found {
@@ -34,6 +34,12 @@ pub struct Sessions {
     pub last_index: u32,
     // The number of sessions inserted so far, which identifies the next one.
     pub inserted: u64,
+}
+
+// The local index that the next allocation gives, and how many numbers it takes.
+pub struct Ahead {
+    pub index: u32,
+    pub tries: u8,
 }
 
 // The sessions with the local index that was allocated.
@@ -147,27 +153,35 @@ impl Sessions {
         slot_of(session.receiving_index) == slot_of(index)
     }
 
+    // The local index that the next allocation gives: the following number, or the one after it where that has the current session's
+    // slot.
+    pub fn ahead(self) -> Ahead
+        ensures { λ r. ⌜ r ≡ ahead self ⌝ }
+    {
+        let first = wrapping_increment(self.last_index);
+        if self.in_current_slot(first) {
+            return Ahead {
+                index: wrapping_increment(first),
+                tries: 2,
+            };
+        }
+        Ahead {
+            index: first,
+            tries: 1,
+        }
+    }
+
     // Allocates a local index for a new session. It skips the current session's slot, so that it cannot be overwritten.
     pub fn next_index(self) -> Allocated
         ensures { λ r. ⌜ r ≡ nextIndex self ⌝ }
     {
-        let first = wrapping_increment(self.last_index);
-        if self.in_current_slot(first) {
-            let second = wrapping_increment(first);
-            return Allocated {
-                sessions: Sessions {
-                    last_index: second,
-                    ..self
-                },
-                index: second,
-            };
-        }
+        let ahead = self.ahead();
         Allocated {
             sessions: Sessions {
-                last_index: first,
+                last_index: ahead.index,
                 ..self
             },
-            index: first,
+            index: ahead.index,
         }
     }
 

@@ -210,7 +210,6 @@ waking-ends : (jitter now : ℕ) → WakingKeeps Waking jitter now
 unfolding scheduling
 waking-ends jitter now =
     record {
-      sends = λ c store w. record { long = w .long; unselected = λ e. absurd (sends-living c now e) };
       schedules = λ c store w. record { long = w .long; unselected = w .unselected };
       keeps-alive = λ c store w. record { long = w .long; unselected = keepalives-unselected c now (w .unselected) };
       drops = λ c store w. record { long = w .long; unselected = cookie-unselected c now (w .unselected) };
@@ -231,7 +230,8 @@ timeout-ended c store jitter now h long =
     known-choice (λ (y : Turn). EndedOut (y .out)) (expiredControl c) _ _ (λ e. h)
     (λ e f.
     let w : Waking c store = record { long = long; unselected = λ x. absurd (is-living c e x) } in
-    none-current _ (of-wake Waking jitter now (waking-ends jitter now) c store w .unselected f))
+    let sent : Waking (sendScheduled c now) store = record { long = long; unselected = λ x. absurd (sends-living c now x) } in
+    none-current _ (of-wake Waking jitter now (waking-ends jitter now) c store w sent .unselected f))
 
 -- a creation
 new-ended : (index keepalive now : ℕ) → NoneCurrent (newTunnel index keepalive now)

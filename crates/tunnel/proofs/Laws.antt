@@ -18,7 +18,9 @@ use Rattle.tunnel.proofs.Numbers.{first-numbers}
 use Rattle.tunnel.proofs.Queue.{queue-of-newest}
 use Rattle.tunnel.proofs.Quiet.{wake-quiet}
 use Rattle.tunnel.proofs.Responses.{keepalive-sent, confirming-sessions, response-current, response-good}
-use Rattle.tunnel.proofs.Setting.{on-start, on-restart, on-send, on-receive, on-look, on-incoming, on-response, on-cookie, on-timeout, on-missing, on-timed, on-timeless}
+use Rattle.tunnel.proofs.Ahead.{new-gives, call-start-gives, call-restart-gives, initiation-gives, initiation-failed, initiation-refused, waking-gives, waking-unsent}
+use Rattle.tunnel.proofs.AheadExample.{computed}
+use Rattle.tunnel.proofs.Lasting.{Set, Last, on-start, on-restart, on-send, on-receive, on-look, on-incoming, on-response, on-cookie, on-timeout, on-missing, on-timed, on-timeless}
 use Rattle.tunnel.proofs.SoundCalls.{its-control, good-made, timed-sound, good-store, made-sound, timeless-sound}
 use Rattle.tunnel.proofs.SoundSteps.{SoundControl, sound-later}
 use Rattle.tunnel.proofs.Still.{restart-expired, start-expired, start-again, timeout-nothing, empty-nothing, deadline-nothing, event-answer, event-queue, event-rest}
@@ -27,7 +29,9 @@ use Rattle.tunnel.proofs.TurnedDown.{TurnWays, timed-same, timed-down, 
 use Rattle.tunnel.specs.AfterStates.{AfterStates, GreatestLaw, StillLaw, EventLaw, NoneCurrent, ExpiredLaw}
 use Rattle.tunnel.specs.Deadline.{DeadlineLaw}
 use Rattle.tunnel.specs.Facts.{FactsOfUndamaged}
-use Rattle.tunnel.specs.Laws.{GateLaw, SettingLaw, establishing, confirmedBy, ResponseLaw}
+use Rattle.tunnel.specs.Ahead.{lastIndex, AheadLaw, AheadExample}
+use Rattle.tunnel.specs.declared.timers.Interval.{Interval}
+use Rattle.tunnel.specs.Laws.{GateLaw, settingOf, SettingLaw, establishing, confirmedBy, ResponseLaw}
 use Rattle.tunnel.specs.Numbers.{NumbersLaw}
 use Rattle.tunnel.specs.Quiet.{QuietLaw}
 use Rattle.tunnel.specs.RingBuffer.{QueueOfNewest}
@@ -114,20 +118,52 @@ store-law t store l =
 pub setting-law : (t : Tunnel) (store : List ℕ) → SettingLaw t store
 unfolding callStart callRestart callSend callReceive callLook callInitiation callResponse callCookie callTimeout callEvent callDeadline callMissing timedTurn timedBatch pollEvent
 setting-law t store =
+    let Same : Control → Type 0 = Set (settingOf t) in
+    let l : ℕ = t .control .sessions .«last_index» in
     record {
-      start = λ now. on-timed _ t refl _ now _ (on-start _ _ now refl);
-      restart = λ now. on-timed _ t refl _ now _ (on-restart _ _ now refl);
-      send = λ count now. on-timed _ t refl _ now _ (on-send _ _ count now refl);
-      receive = λ index id now counters kinds verdicts skips. on-timed _ t refl _ now _ (on-receive _ _ store index id now counters kinds verdicts skips refl);
-      look = λ index counter now. on-timed _ t refl _ now _ (on-look _ _ store index counter now refl);
-      initiation = λ peer outcome now. on-timed _ t refl _ now _ (on-incoming _ _ store peer _ now refl);
-      response = λ receiver peer outcome now. on-timed _ t refl _ now _ (on-response _ _ store receiver peer _ now refl);
-      cookie = λ receiver outcome now. on-timed _ t refl _ now _ (on-cookie _ _ receiver _ now refl);
-      timeout = λ jitter now. on-timed _ t refl _ now _ (on-timeout _ _ store jitter now refl);
-      event = on-timeless _ t refl _ _ refl;
-      deadline = on-timeless _ t refl _ _ refl;
-      missing = λ index. on-timeless _ t refl _ _ (on-missing _ _ store index refl);
+      start = λ now. on-timed Same t refl _ now _ (on-start _ _ now refl);
+      restart = λ now. on-timed Same t refl _ now _ (on-restart _ _ now refl);
+      send = λ count now. on-timed Same t refl _ now _ (on-send _ l _ count now (refl, refl) .0);
+      receive = λ index id now counters kinds verdicts skips.
+          on-timed Same t refl _ now _ (on-receive _ l _ store index id now counters kinds verdicts skips (refl, refl) .0);
+      look = λ index counter now. on-timed Same t refl _ now _ (on-look _ l _ store index counter now (refl, refl) .0);
+      initiation = λ peer outcome now. on-timed Same t refl _ now _ (on-incoming _ _ store peer _ now refl);
+      response = λ receiver peer outcome now. on-timed Same t refl _ now _ (on-response _ l _ store receiver peer _ now (refl, refl) .0);
+      cookie = λ receiver outcome now. on-timed Same t refl _ now _ (on-cookie _ l _ receiver _ now (refl, refl) .0);
+      timeout = λ jitter now. on-timed Same t refl _ now _ (on-timeout _ _ store jitter now refl);
+      event = on-timeless Same t refl _ _ refl;
+      deadline = on-timeless Same t refl _ _ refl;
+      missing = λ index. on-timeless Same t refl _ _ (on-missing _ l _ store index (refl, refl) .0);
     }
+
+-- the index told ahead
+pub ahead-law : (t : Tunnel) (store : List ℕ) → length (t .control .events .slots) ≡ 16 → AheadLaw t store
+unfolding callSend callReceive callLook callResponse callCookie callEvent callDeadline callMissing timedTurn timedBatch pollEvent
+ahead-law t store long =
+    let Same : Control → Type 0 = λ (c : Control). Last (lastIndex t) (c .sessions) in
+    let i : Interval = settingOf t in
+    record {
+      new = new-gives store;
+      start = call-start-gives t;
+      restart = call-restart-gives t;
+      initiation = initiation-gives t store;
+      failed = initiation-failed t store;
+      refused = initiation-refused t store;
+      sent = λ jitter now. waking-gives t store jitter now long;
+      unsent = waking-unsent t store;
+      send = λ count now. on-timed Same t refl _ now _ (on-send i _ _ count now (refl, refl) .1);
+      receive = λ index id now counters kinds verdicts skips.
+          on-timed Same t refl _ now _ (on-receive i _ _ store index id now counters kinds verdicts skips (refl, refl) .1);
+      look = λ index counter now. on-timed Same t refl _ now _ (on-look i _ _ store index counter now (refl, refl) .1);
+      response = λ receiver peer outcome now. on-timed Same t refl _ now _ (on-response i _ _ store receiver peer _ now (refl, refl) .1);
+      cookie = λ receiver outcome now. on-timed Same t refl _ now _ (on-cookie i _ _ receiver _ now (refl, refl) .1);
+      event = on-timeless Same t refl _ _ refl;
+      deadline = on-timeless Same t refl _ _ refl;
+      missing = λ index. on-timeless Same t refl _ _ (on-missing i _ _ store index (refl, refl) .1);
+    }
+
+pub ahead-example : AheadExample
+ahead-example = computed
 
 -- the number that turns a call down
 pub numbers-law : (t : Tunnel) (store : List ℕ) → NumbersLaw t store

@@ -1,4 +1,6 @@
 pub mod AfterStates
+pub mod Ahead
+pub mod AheadExample
 pub mod BadArguments
 pub mod Chains
 pub mod Deadline
@@ -10,6 +12,7 @@ pub mod FirstFailing
 pub mod Framed
 pub mod HandshakeWays
 pub mod Kept
+pub mod Lasting
 pub mod Later
 pub mod Laws
 pub mod Numbers
@@ -19,7 +22,6 @@ pub mod Queue
 pub mod QueueLoop
 pub mod Quiet
 pub mod Responses
-pub mod Setting
 pub mod SoundCalls
 pub mod SoundOperations
 pub mod SoundSending

@@ -77,7 +77,6 @@ module _ (most now : ℕ) (h : now ≤ most) where
   sound-kept : (jitter : ℕ) → jitter ≤ maxJitter → WakingKeeps (λ (c : Control) (store : List ℕ). SoundControl c most) jitter now
   sound-kept jitter j =
       record {
-        sends = λ c store w. sound-scheduled c w;
         schedules = λ c store w. sound-scheduling jitter j c w;
         keeps-alive = λ c store w. sound-keepalives c w;
         drops = λ c store w. sound-cookie c w;
@@ -86,7 +85,7 @@ module _ (most now : ℕ) (h : now ≤ most) where
       }
 
   sound-wake : (jitter : ℕ) → jitter ≤ maxJitter → (c : Control) (store : List ℕ) → SoundControl c most → SoundControl (handleDue c store jitter now .control) most
-  sound-wake jitter j c store w = of-wake (λ (x : Control) (y : List ℕ). SoundControl x most) jitter now (sound-kept jitter j) c store w
+  sound-wake jitter j c store w = of-wake (λ (x : Control) (y : List ℕ). SoundControl x most) jitter now (sound-kept jitter j) c store w (sound-scheduled c w)
 
 -- the waking as a call sees it
 pub timeout-sound : (old now : ℕ) → old ≤ now → (c : Control) → SoundControl c old → (store : List ℕ) (jitter : ℕ) → jitter ≤ maxJitter

@@ -50,12 +50,11 @@ unfolding expireControl clearAll
 ended-whole c store now l = whole-law (c .sessions) store l .clearing
 
 wake-whole : (c : Control) (store : List ℕ) (jitter now : ℕ) → Whole store → Whole (handleDue c store jitter now .store)
-wake-whole c store jitter now l = of-wake (λ (x : Control) (words : List ℕ). Whole words) jitter now steps c store l
+wake-whole c store jitter now l = of-wake (λ (x : Control) (words : List ℕ). Whole words) jitter now steps c store l l
   where
     steps : WakingKeeps (λ (x : Control) (words : List ℕ). Whole words) jitter now
     steps =
         record {
-          sends = λ x words m. m;
           schedules = λ x words m. m;
           keeps-alive = λ x words m. m;
           drops = λ x words m. m;

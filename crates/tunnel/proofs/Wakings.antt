@@ -1,19 +1,22 @@
--- What every step of a waking keeps, the waking keeps.
+-- What every step of a waking keeps, the waking keeps, save where it sends a scheduled handshake.
 -- Assumes nothing.
+use mathlib.Core.Path.{_≡_}
 use mathlib.Core.Bool.{Bool, false}
 use mathlib.Core.List.{List}
 use Prim.Native.Nat.{ℕ}
 use Rattle.base.proofs.Choice.{of-choice}
+use Rattle.base.specs.Choice.{choose}
 use Rattle.sessions.specs.Cases.{of-found, of-time}
+use Rattle.sessions.specs.Session.{dueBy}
 use Rattle.tunnel.specs.Control.{withHandshake, withSessions}
 use Rattle.tunnel.specs.declared.control.Control.{Control}
 use Rattle.tunnel.specs.Handshake.{expireCookie}
+use Rattle.tunnel.specs.PollTimeout.{scheduledHandshake}
 use Rattle.sessions.specs.Sessions.{expire}
 use Rattle.tunnel.specs.HandleTimeout.{Inner, expireControl, scheduling, keepaliveIfDue, rekeyOrKeepalive, giveUpOrRetry, maintainConnection, expireSessions, sendScheduled, handleDue}
 
--- the steps of a waking keep what is said of a control and its store
+-- the steps of a waking that sends no scheduled handshake keep what is said of a control and its store
 pub record WakingKeeps (P : Control → List ℕ → Type 0) (jitter now : ℕ) : Type 0 where
-  pub sends : (c : Control) (store : List ℕ) → P c store → P (sendScheduled c now) store
   pub schedules : (c : Control) (store : List ℕ) → P c store → P (scheduling c jitter now) store
   pub keeps-alive : (c : Control) (store : List ℕ) → P c store → P (keepaliveIfDue c now) store
   pub drops : (c : Control) (store : List ℕ) → P c store → P (withHandshake c (expireCookie (c .handshake) now)) store
@@ -51,6 +54,10 @@ module _ (P : Control → List ℕ → Type 0) (jitter now : ℕ) (k : WakingKee
       let v : P (withSessions c (expire (c .sessions) store now .expired .sessions)) (expire (c .sessions) store now .store) = k .expires c store w in
       of-found Holds _ _ _ (of-maintained _ _ false v) (λ s. of-choice Holds _ _ _ (k .ends _ _ v) (of-maintained _ _ _ v))
 
-  pub of-wake : (c : Control) (store : List ℕ) → P c store → Holds (handleDue c store jitter now)
+  pub of-unsent : (c : Control) (store : List ℕ) → P c store → dueBy (scheduledHandshake c) now ≡ false → Holds (handleDue c store jitter now)
+  unfolding handleDue choose
+  of-unsent c store w n = rw n (of-time Holds _ _ _ (of-expired c store w) (λ at. w))
+
+  pub of-wake : (c : Control) (store : List ℕ) → P c store → P (sendScheduled c now) store → Holds (handleDue c store jitter now)
   unfolding handleDue
-  of-wake c store w = of-choice Holds _ _ _ (k .sends c store w) (of-time Holds _ _ _ (of-expired c store w) (λ at. w))
+  of-wake c store w sent = of-choice Holds _ _ _ sent (of-time Holds _ _ _ (of-expired c store w) (λ at. w))

@@ -1,4 +1,5 @@
 pub mod AfterStates
+pub mod Ahead
 pub mod Answer
 pub mod Arguments
 pub mod Cases

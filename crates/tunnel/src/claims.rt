@@ -9,6 +9,7 @@ ghost use Rattle.tunnel.specs.declared.control.Control.{Control};
 ghost use mathlib.Core.Path.{_≡_};
 ghost use lib.ListN.{length};
 ghost use Rattle.tunnel.specs.AfterStates.{AfterStates, GreatestLaw, StillLaw, EventLaw, NoneCurrent, ExpiredLaw};
+ghost use Rattle.tunnel.specs.Ahead.{AheadLaw, AheadExample};
 ghost use Rattle.tunnel.specs.Numbers.{NumbersLaw};
 ghost use Rattle.tunnel.specs.Deadline.{DeadlineLaw};
 ghost use Rattle.tunnel.specs.Sound.{Sound, SoundLaw, StoreLaw, CreatedLaw};
@@ -47,6 +48,16 @@ pub fn gate_law()
 // No call changes the persistent keepalive's setting.
 pub fn setting_law()
     ensures { λ r. ⌜ ((t : Tunnel) (store : List ℕ) → SettingLaw t store) ⌝ }
+{}
+
+// Each call that allocates a local index gives the one told just before it, and no other call uses one up.
+pub fn ahead_law()
+    ensures { λ r. ⌜ ((t : Tunnel) (store : List ℕ) → length (t .control .events .slots) ≡ 16 → AheadLaw t store) ⌝ }
+{}
+
+// There is a tunnel on which each of these calls allocates an index, two numbers on.
+pub fn ahead_example()
+    ensures { λ r. ⌜ AheadExample ⌝ }
 {}
 
 // A response that opened makes its session the current one and is answered with that session's first counter.

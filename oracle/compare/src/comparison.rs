@@ -1,9 +1,12 @@
 //! Goes through scripts, many for each run of the two programs, and reports.
 
+use std::collections::BTreeSet;
+
 use crate::cut::{cut_down, text};
 use crate::maker::Script;
 use crate::programs::{Output, first_difference, run_both};
 use crate::tally::Tally;
+use crate::told::{Told, told};
 
 /// The most scripts that one run of a program answers.
 const BATCH: usize = 300;
@@ -70,18 +73,25 @@ impl<'a> Comparison<'a> {
         self.runs += 1;
 
         let outputs = run_both(self.programs, &input);
-        if first_difference(&outputs).is_none() && outputs[0].lines.len() == lines.len() {
+        let told = told(&lines, &outputs[0].lines);
+        let holds = told.iter().all(|told| told.holds);
+        if holds && first_difference(&outputs).is_none() && outputs[0].lines.len() == lines.len() {
             self.scripts += batch.len() as u64;
             for (line, answer) in lines.iter().zip(&outputs[0].lines) {
                 self.tally.count(line, answer);
             }
+            for told in &told {
+                self.tally.count_told(told);
+            }
             return;
         }
-        self.find_differences(batch, &outputs);
+        self.find_differences(batch, &outputs, &told);
     }
 
-    /// Finds the scripts of a batch that were answered differently.
-    fn find_differences(&mut self, batch: &[Named], outputs: &[Output; 2]) {
+    /// Finds the scripts of a batch that were answered differently, or in which the first program told another index than the Rust then used.
+    fn find_differences(&mut self, batch: &[Named], outputs: &[Output; 2], told: &[Told]) {
+        let wrong = told.iter().filter(|told| !told.holds);
+        let wrong: BTreeSet<usize> = wrong.map(|told| told.at).collect();
         let mut start = 0;
 
         for (at, (name, script)) in batch.iter().enumerate() {
@@ -89,13 +99,18 @@ impl<'a> Comparison<'a> {
             let last = at + 1 == batch.len();
             let differs = (start..end).find(|line| {
                 let [a, b] = outputs.each_ref().map(|output| output.lines.get(*line));
-                a != b || a.is_none()
+                a != b || a.is_none() || wrong.contains(line)
             });
 
             self.scripts += 1;
             let equal = differs.unwrap_or(end) - start;
             for (line, answer) in script.lines[..equal].iter().zip(&outputs[0].lines[start..]) {
                 self.tally.count(line, answer);
+            }
+            for told in told {
+                if (start..start + equal).contains(&told.at) {
+                    self.tally.count_told(told);
+                }
             }
             if differs.is_some() || (last && ends_differently(outputs, end)) {
                 self.note_difference(name, &batch[..=at]);
@@ -134,9 +149,10 @@ impl<'a> Comparison<'a> {
             })
     }
 
-    /// Prints a script beside the answers of both programs.
+    /// Prints a script beside the answers of both programs, and each index of the Rust that the first one did not tell.
     fn print_cut(&self, lines: &[Vec<u8>]) {
         let outputs = run_both(self.programs, &text(lines));
+        let told = told(lines, &outputs[0].lines);
         let shown = |output: &Output, at: usize| {
             output
                 .lines
@@ -152,6 +168,12 @@ impl<'a> Comparison<'a> {
             } else {
                 println!("      A:    {a}");
                 println!("      B:    {b}");
+            }
+            if let Some(told) = told.iter().find(|told| told.at == at && !told.holds) {
+                println!(
+                    "      the Rust used {} in {}, A told otherwise",
+                    told.index, told.tries
+                );
             }
         }
         for (name, output) in ["A", "B"].iter().zip(&outputs) {

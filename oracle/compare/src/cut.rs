@@ -1,6 +1,7 @@
 //! Cuts a script on which two programs differ down to a short one.
 
 use crate::programs::{first_difference, run_both};
+use crate::told::told;
 
 /// Removes lines, then messages of batches and reports of callouts, as long as the programs still differ; gives nothing
 /// where they do not differ on the whole script.
@@ -15,11 +16,12 @@ pub(crate) fn cut_down(programs: [&str; 2], script: &[Vec<u8>]) -> Option<Vec<Ve
     Some(shorter)
 }
 
-/// Whether the programs answer a script differently.
+/// Whether the programs answer a script differently, or the first tells another index than the Rust then uses.
 fn differs(programs: [&str; 2], lines: &[Vec<u8>]) -> bool {
     let outputs = run_both(programs, &text(lines));
+    let told = told(lines, &outputs[0].lines);
 
-    first_difference(&outputs).is_some()
+    first_difference(&outputs).is_some() || told.iter().any(|told| !told.holds)
 }
 
 /// The lines of a script as one text.

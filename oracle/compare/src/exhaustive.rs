@@ -83,8 +83,8 @@ impl Iterator for Exhaustive {
     }
 }
 
-/// The script of a word: a tunnel, each letter with the deadline after it, the skips and the last heard time after each batch, the events, the
-/// skips and when each session was last heard.
+/// The script of a word: a tunnel, each letter with the next index before it and the deadline after it, the skips and the last heard time after
+/// each batch, the events, the skips, the next index and when each session was last heard.
 fn spell(word: impl Iterator<Item = Letter>) -> Script {
     let mut speller = Speller {
         driver: Driver::new(),
@@ -94,6 +94,7 @@ fn spell(word: impl Iterator<Item = Letter>) -> Script {
     speller.ask("new 254 25 0".to_string());
     for letter in word {
         let line = speller.line(letter);
+        speller.ask("ahead".to_string());
         speller.ask(line);
         speller.ask("next".to_string());
         if matches!(letter, Letter::Recv) {
@@ -104,6 +105,7 @@ fn spell(word: impl Iterator<Item = Letter>) -> Script {
     }
     while !matches!(speller.ask("event".to_string()), Some(Answer::None)) {}
     speller.ask("skips".to_string());
+    speller.ask("ahead".to_string());
     for index in speller.held() {
         speller.ask(format!("heard {index}"));
     }

@@ -187,6 +187,7 @@ fn is_of_tunnel(call: &Call) -> bool {
     !matches!(
         call,
         Call::New { .. }
+            | Call::Ahead
             | Call::Split { .. }
             | Call::Datagram { .. }
             | Call::Header { .. }

@@ -1,5 +1,6 @@
 //! Makes scripts, runs two programs on them and compares their answers.
 
+mod ahead_moves;
 mod comparison;
 mod cut;
 mod datagram_moves;
@@ -8,6 +9,7 @@ mod exhaustive;
 mod gaps;
 mod growth;
 mod heard_moves;
+mod indices;
 mod insertion;
 mod log_moves;
 mod log_scripts;
@@ -23,11 +25,13 @@ mod random;
 mod skip_moves;
 mod tally;
 mod times;
+mod told;
 
 pub use comparison::Comparison;
 pub use datagrams::datagram_scripts;
 pub use exhaustive::Exhaustive;
 pub use gaps::gap_scripts;
+pub use indices::{index_scripts, short_index_scripts};
 pub use insertion::make_pair;
 pub use log_scripts::{log_scripts, short_log_scripts};
 pub use maker::{Script, make_script};

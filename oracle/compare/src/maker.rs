@@ -2,6 +2,7 @@
 
 use oracle::{Answer, Call, Driver, View, ViewSession};
 
+use crate::ahead_moves::AheadMoves;
 use crate::datagram_moves::Datagrams;
 use crate::heard_moves::HeardMoves;
 use crate::insertion::Insertion;
@@ -50,6 +51,7 @@ pub(crate) struct Maker {
     pub(crate) log: LogMoves,
     pub(crate) skips: SkipMoves,
     pub(crate) heard: HeardMoves,
+    pub(crate) ahead: AheadMoves,
     /// The extra wakings, where a pair of scripts is made.
     pub(crate) insertion: Option<Insertion>,
 }
@@ -71,6 +73,7 @@ impl Maker {
             log: LogMoves::new(seed),
             skips: SkipMoves::new(seed),
             heard: HeardMoves::new(seed),
+            ahead: AheadMoves::new(seed),
             insertion: None,
         }
     }
@@ -99,34 +102,45 @@ impl Maker {
         }
     }
 
-    /// Ends with all events, the deadline, the missing reports, the skips and when each session was last heard.
+    /// Ends with all events, the deadline, the missing reports, the skips, when each session was last heard and the next index.
     pub(crate) fn end(&mut self) {
         self.drain();
         self.ask("next");
         self.all_missing();
         self.ask_alone("skips");
         self.all_heard();
+        if self.insertion.is_none() {
+            self.ask_ahead();
+        }
     }
 
-    /// Whether the script is as long as it should be, its datagrams, the log's lines and those that ask when a session was last heard not counted.
+    /// Whether the script is as long as it should be, its datagrams, the log's lines and those that ask when a session was last heard or for the
+    /// next index not counted.
     pub(crate) fn full(&self) -> bool {
-        let beside = self.datagrams.lines + self.log.lines + self.heard.lines;
+        let beside = self.datagrams.lines + self.log.lines + self.heard.lines + self.ahead.lines;
 
         self.lines.len() - beside >= self.length
     }
 
-    /// Adds a line, now and then a datagram, lines of the log, skips or a last heard time behind it, and gives the oracle's answer to the line,
-    /// if it is good.
+    /// Adds a line, now and then a question for the next index before it, a datagram, lines of the log, skips, a last heard time or the next
+    /// index behind it, and gives the oracle's answer to the line, if it is good.
     pub(crate) fn ask(&mut self, line: impl Into<Vec<u8>>) -> Option<Answer> {
         let line = line.into();
+        let alone = self.insertion.is_none();
+        if alone {
+            self.ahead_before(&line);
+        }
         let answer = self.ask_alone(line.clone());
 
-        if self.insertion.is_none() {
+        if alone {
             self.datagrams_now_and_then();
             self.log_now_and_then();
         }
         self.skips_now_and_then(&line);
         self.heard_now_and_then(&line, answer.is_some());
+        if alone {
+            self.ahead_after(&line);
+        }
         answer
     }
 

@@ -18,7 +18,7 @@ pub(crate) struct Profile {
     pub(crate) far: u64,
     /// How often a line is followed by a datagram or a header, in percent.
     pub(crate) datagrams: u64,
-    /// How many of these, and of the lines that ask when a session was last heard, mostly cannot be read, in percent.
+    /// How many of these, and of the lines that ask when a session was last heard or for the next index, mostly cannot be read, in percent.
     pub(crate) odd_datagrams: u64,
     /// How often a line is followed by lines of the log, in percent.
     pub(crate) log: u64,

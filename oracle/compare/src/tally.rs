@@ -5,8 +5,10 @@ use std::fmt;
 
 use oracle::Call;
 
-/// Counts of call words, refusal numbers, events, verdicts, skips, last heard times, of the types read and the headers written, and of the log's
-/// callouts and records.
+use crate::told::Told;
+
+/// Counts of call words, refusal numbers, events, verdicts, skips, last heard times, of the indices told ahead and then used by the Rust, of the
+/// types read and the headers written, and of the log's callouts and records.
 #[derive(Default)]
 pub struct Tally {
     calls: u64,
@@ -18,6 +20,10 @@ pub struct Tally {
     heard: BTreeMap<&'static str, u64>,
     /// The times of the handshake messages that made the tunnel's sessions, by the local index.
     made: BTreeMap<u32, u64>,
+    /// The indices told ahead, by the call that then allocated them.
+    told: BTreeMap<&'static str, u64>,
+    /// The same ones, by the numbers that the allocation took.
+    tries: BTreeMap<u8, u64>,
     datagrams: BTreeMap<String, u64>,
     log: BTreeMap<String, u64>,
 }
@@ -90,6 +96,12 @@ impl Tally {
         }
     }
 
+    /// Counts an index that was told ahead and then used by the Rust.
+    pub(crate) fn count_told(&mut self, told: &Told) {
+        *self.told.entry(told.call).or_default() += 1;
+        *self.tries.entry(told.tries).or_default() += 1;
+    }
+
     /// Counts a callout that was appended, or a walk with its callouts and records.
     fn count_log<'a>(&mut self, word: &str, mut parts: impl Iterator<Item = &'a str>) {
         if word == "append" {
@@ -142,6 +154,10 @@ impl fmt::Display for Tally {
         writeln!(f, "verdicts:  {}", list(&self.verdicts))?;
         writeln!(f, "skips:     {}", list(&self.skips))?;
         writeln!(f, "heard:     {}", list(&self.heard))?;
+        let told: u64 = self.told.values().sum();
+        let by_call = list(&self.told);
+        writeln!(f, "told:      {told} as the Rust then used them: {by_call}")?;
+        writeln!(f, "tries:     {}", list(&self.tries))?;
         writeln!(f, "datagrams: {}", list(&self.datagrams))?;
         write!(f, "log:       {}", list(&self.log))
     }

@@ -53,6 +53,30 @@ impl Sessions {
     pub(crate) fn last_index(&self) -> u32 {
         number_of(self.last_index)
     }
+
+    /// The local index that the Rust's own allocation gives, and the numbers it takes; the last index is set back afterwards.
+    pub(crate) fn ahead(&mut self) -> (u32, u8) {
+        let last = self.last_index;
+        let index = self.next_index();
+        self.last_index = last;
+        let [low, last_low] = [index, last].map(|index| number_of(index) as u8);
+
+        (number_of(index), low.wrapping_sub(last_low))
+    }
+
+    /// Empties the slot of `index`, whether or not the session in it is selected.
+    #[cfg(test)]
+    pub(crate) fn empty(&mut self, index: Index) {
+        *self.slot_mut(index) = None;
+    }
+
+    /// Gives the session in the slot of `index` another index.
+    #[cfg(test)]
+    pub(crate) fn rename(&mut self, index: Index, other: Index) {
+        let session = self.slot_mut(index).as_mut();
+
+        session.expect("a session").receiving_index = other;
+    }
 }
 
 impl PendingEncapsulate {

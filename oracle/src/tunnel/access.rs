@@ -2,14 +2,20 @@
 
 use std::time::Instant;
 
-use super::Tunnel;
+use super::{Event, Tunnel};
 use crate::handshake::Handshake;
+use crate::message::Datagram;
 use crate::session::Sessions;
 
 impl Tunnel {
     /// The tunnel's sessions.
     pub(crate) fn sessions(&self) -> &Sessions {
         &self.sessions
+    }
+
+    /// The tunnel's sessions, to be asked by a call that changes them.
+    pub(crate) fn sessions_mut(&mut self) -> &mut Sessions {
+        &mut self.sessions
     }
 
     /// The tunnel's handshake.
@@ -20,6 +26,21 @@ impl Tunnel {
     /// Whether an event is queued.
     pub(crate) fn has_events(&self) -> bool {
         !self.events.is_empty()
+    }
+
+    /// What `read` finds in the newest initiation that is queued; each event is taken and queued again in its order.
+    pub(crate) fn newest_initiation<T>(&mut self, read: impl Fn(&Datagram) -> T) -> Option<T> {
+        let events: Vec<Event> = std::iter::from_fn(|| self.events.pop_front()).collect();
+        let mut newest = None;
+
+        for event in events {
+            if let Event::SendHandshakeInitiation(datagram) = &event {
+                newest = Some(read(datagram));
+            }
+            self.events.push_back(event);
+        }
+
+        newest
     }
 
     /// Every time at which some rule of the tunnel changes its answer, due or not.

@@ -1,12 +1,12 @@
-//! Runs two programs on the same scripts and compares their answers line by line:
-//! compare A B [--seeds FROM..TO] [--manner D] [--exhaustive N] [--datagrams] [--gaps] [--log] [--lines M] [--stop] [--no-cut]
+//! Runs two programs on the same scripts, compares their answers line by line and holds each index that the first told ahead to the Rust:
+//! compare A B [--seeds FROM..TO] [--manner D] [--exhaustive N] [--datagrams] [--gaps] [--log] [--indices] [--ahead] [--lines M] [--stop] [--no-cut]
 
 use std::env;
 use std::process::ExitCode;
 
 use compare::{
-    Comparison, Exhaustive, Script, datagram_scripts, gap_scripts, log_scripts, make_script,
-    profile_name,
+    Comparison, Exhaustive, Script, datagram_scripts, gap_scripts, index_scripts, log_scripts,
+    make_script, profile_name,
 };
 
 /// What to compare.
@@ -18,6 +18,8 @@ struct Options {
     datagrams: bool,
     gaps: bool,
     log: bool,
+    indices: bool,
+    ahead: bool,
     lines: usize,
     stop: bool,
     cut: bool,
@@ -26,7 +28,7 @@ struct Options {
 fn main() -> ExitCode {
     let Some(options) = options() else {
         eprintln!(
-            "usage: compare A B [--seeds FROM..TO] [--manner D] [--exhaustive N] [--datagrams] [--gaps] [--log] [--lines M] [--stop] [--no-cut]"
+            "usage: compare A B [--seeds FROM..TO] [--manner D] [--exhaustive N] [--datagrams] [--gaps] [--log] [--indices] [--ahead] [--lines M] [--stop] [--no-cut]"
         );
         return ExitCode::from(2);
     };
@@ -34,28 +36,34 @@ fn main() -> ExitCode {
     let (from, to) = options.seeds;
     let seeds = (from..to)
         .filter(|seed| options.manner.is_none_or(|digit| seed % 10 == digit))
-        .map(|seed| of_seed(seed, options.lines));
+        .map(|seed| of_seed(seed, options.lines, options.ahead));
     let words = Exhaustive::new(options.exhaustive)
         .enumerate()
         .map(|(at, script)| (format!("word {at}"), script));
     let datagrams = options.datagrams.then(datagram_scripts).unwrap_or_default();
     let gaps = options.gaps.then(gap_scripts).unwrap_or_default();
     let log = options.log.then(log_scripts).unwrap_or_default();
+    let indices = options.indices.then(index_scripts).unwrap_or_default();
     let [a, b] = &options.programs;
     let mut comparison = Comparison::new([a, b], options.stop, options.cut);
 
-    let fixed = datagrams.into_iter().chain(gaps).chain(log);
+    let fixed = datagrams.into_iter().chain(gaps).chain(log).chain(indices);
     comparison.go_through(seeds.chain(words).chain(fixed));
     comparison.report();
 
     ExitCode::from(u8::from(comparison.differences() > 0))
 }
 
-/// The script of a seed with the name it is reported by.
-fn of_seed(seed: u64, lines: usize) -> (String, Script) {
+/// The script of a seed with the name it is reported by, and where `ahead` says so with the next index asked for before every call that may
+/// allocate one.
+fn of_seed(seed: u64, lines: usize, ahead: bool) -> (String, Script) {
     let name = format!("seed {seed} ({})", profile_name(seed));
+    let script = make_script(seed, lines);
 
-    (name, make_script(seed, lines))
+    match ahead {
+        true => (name, script.with_ahead()),
+        false => (name, script),
+    }
 }
 
 /// Reads the arguments, or nothing where they are not as they should be.
@@ -69,6 +77,8 @@ fn options() -> Option<Options> {
         datagrams: false,
         gaps: false,
         log: false,
+        indices: false,
+        ahead: false,
         lines: 150,
         stop: false,
         cut: true,
@@ -99,6 +109,11 @@ fn options() -> Option<Options> {
                 options.log = true;
                 chosen = true;
             }
+            "--indices" => {
+                options.indices = true;
+                chosen = true;
+            }
+            "--ahead" => options.ahead = true,
             "--manner" => options.manner = Some(arguments.next()?.parse().ok()?),
             "--lines" => options.lines = arguments.next()?.parse().ok()?,
             "--stop" => options.stop = true,

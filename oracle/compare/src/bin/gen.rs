@@ -1,11 +1,14 @@
-//! Writes the script of a seed, or all datagram, gap or log scripts one after another, or the short log scripts:
-//! gen SEED [LINES] | gen --datagrams | gen --gaps | gen --log | gen --short-log
+//! Writes the script of a seed, or all datagram, gap, log or index scripts one after another, or few of the last two kinds:
+//! gen [--ahead] SEED [LINES] | gen --datagrams | gen --gaps | gen --log | gen --short-log | gen --indices | gen --short-indices
 
 use std::env;
 use std::io::{self, BufWriter, Write};
 use std::process;
 
-use compare::{Script, datagram_scripts, gap_scripts, log_scripts, make_script, short_log_scripts};
+use compare::{
+    Script, datagram_scripts, gap_scripts, index_scripts, log_scripts, make_script,
+    short_index_scripts, short_log_scripts,
+};
 
 /// The length of a script where none is given.
 const LINES: usize = 150;
@@ -14,7 +17,7 @@ fn main() -> io::Result<()> {
     let arguments: Vec<String> = env::args().skip(1).collect();
     let Some(lines) = lines(&arguments) else {
         eprintln!(
-            "usage: gen SEED [LINES] | gen --datagrams | gen --gaps | gen --log | gen --short-log"
+            "usage: gen [--ahead] SEED [LINES] | gen --datagrams | gen --gaps | gen --log | gen --short-log | gen --indices | gen --short-indices"
         );
         process::exit(2);
     };
@@ -35,8 +38,18 @@ fn lines(arguments: &[String]) -> Option<Vec<Vec<u8>>> {
         [name] if name == "--gaps" => Some(all_lines(gap_scripts())),
         [name] if name == "--log" => Some(all_lines(log_scripts())),
         [name] if name == "--short-log" => Some(all_lines(short_log_scripts())),
-        [seed] => Some(make_script(seed.parse().ok()?, LINES).lines),
-        [seed, lines] => Some(make_script(seed.parse().ok()?, lines.parse().ok()?).lines),
+        [name] if name == "--indices" => Some(all_lines(index_scripts())),
+        [name] if name == "--short-indices" => Some(all_lines(short_index_scripts())),
+        [name, rest @ ..] if name == "--ahead" => Some(of_seed(rest)?.with_ahead().lines),
+        _ => Some(of_seed(arguments)?.lines),
+    }
+}
+
+/// The script of a seed, of the length that is given or of the usual one.
+fn of_seed(arguments: &[String]) -> Option<Script> {
+    match arguments {
+        [seed] => Some(make_script(seed.parse().ok()?, LINES)),
+        [seed, lines] => Some(make_script(seed.parse().ok()?, lines.parse().ok()?)),
         _ => None,
     }
 }
