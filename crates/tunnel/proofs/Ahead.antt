@@ -7,29 +7,38 @@ use Prim.Native.Nat.{ℕ, _≤_}
 use native.Mathlib.Omega.{arith}
 use lib.Dec.{eqb}
 use lib.ListN.{length}
-use borrow.Author.Tests.{eqb-false, leb-true, le-leb}
+use lib.Seq.{getD-set-same}
+use borrow.Author.Tests.{eqb-false, eq-eqb, leb-true, le-leb}
 use Rattle.base.proofs.Choice.{known-choice, of-choice}
 use Rattle.base.specs.Choice.{choose}
 use Rattle.sessions.specs.Cases.{caseTime}
-use Rattle.sessions.specs.Session.{dueBy}
-use Rattle.sessions.specs.Sessions.{newSessions, ahead, nextIndex}
+use Rattle.sessions.specs.Index.{slotOf}
+use Rattle.sessions.specs.Laws.{InSlot}
+use Rattle.sessions.specs.Session.{dueBy, newSession, withId, emptySession}
+use Rattle.sessions.specs.Sessions.{newSessions, put, ahead, nextIndex, inserting, insert}
+use Rattle.sessions.specs.declared.session.Role.the-variants.{Responder}
+use Rattle.sessions.specs.declared.session.Session.{Session}
+use Rattle.sessions.specs.declared.sessions.Sessions.{Sessions}
 use Rattle.sessions.specs.declared.session.Time.the-variants.{Never, At}
 use Rattle.sessions.specs.declared.session.Time.{Time}
 use Rattle.tunnel.proofs.Exceptions.{incoming-down, incoming-failed}
 use Rattle.tunnel.proofs.Facts.{undamaged-facts}
-use Rattle.tunnel.proofs.Framed.{gate-whole}
+use Rattle.tunnel.proofs.Framed.{gate-good, gate-whole}
 use Rattle.tunnel.proofs.Lasting.{on-insert, on-unsent}
 use Rattle.tunnel.proofs.Numbers.{Living, is-dead, is-living}
+use Rattle.tunnel.proofs.Opened.{initiation-opened}
 use Rattle.tunnel.proofs.Queue.{queue-of-newest}
+use Rattle.tunnel.proofs.SoundCalls.{good-store}
 use Rattle.tunnel.proofs.TurnedDown.{refused-number, of-timed}
 use Rattle.tunnel.specs.AfterStates.{TurnedDown, OfOutcome}
-use Rattle.tunnel.specs.Ahead.{toldIndex, lastIndex, eventsOf, Initiates, HandshakeDue}
+use Rattle.tunnel.specs.Ahead.{toldIndex, lastIndex, eventsOf, SentWith, AnsweredWith, Initiates, HandshakeDue}
 use Rattle.tunnel.specs.Answer.{numberOf}
 use Rattle.tunnel.specs.Arguments.{badOutcome, badJitter, initiationOutcome, creationNumber}
 use Rattle.tunnel.specs.Cases.{known-completed}
-use Rattle.tunnel.specs.Control.{Turn, newControl, refuse, done, expiredControl, queueing}
+use Rattle.tunnel.specs.Control.{Turn, withSessions, newControl, refuse, done, expiredControl, queueing}
 use Rattle.tunnel.specs.HandleHandshake.{responding, respond, handleHandshakeInitiation}
 use Rattle.tunnel.specs.HandleTimeout.{sendScheduled, handleDue, handleTimeout}
+use Rattle.tunnel.specs.Handshake.{appendMac1AndMac2, initiateHandshake}
 use Rattle.tunnel.specs.InitiateHandshake.{initiating, initiate, restartHandshake, startHandshake}
 use Rattle.tunnel.specs.PollTimeout.{scheduledHandshake}
 use Rattle.tunnel.specs.RingBuffer.{Ring, queued, newest}
@@ -39,6 +48,8 @@ use Rattle.tunnel.specs.declared.control.Control.{Control}
 use Rattle.tunnel.specs.declared.control.Out.{Out}
 use Rattle.tunnel.specs.declared.event.Event.the-variants.{SendHandshakeInitiation}
 use Rattle.tunnel.specs.declared.event.Event.{Event}
+use Rattle.tunnel.specs.declared.handshake.Handshake.{Handshake}
+use Rattle.tunnel.specs.declared.handshake.HandshakeState.the-variants.{InitSent}
 use Rattle.tunnel.specs.declared.tunnel.Answered.{Answered}
 use Rattle.tunnel.specs.declared.tunnel.Tunnel.{Tunnel}
 
@@ -50,68 +61,112 @@ abbrev lastOf : Control → ℕ
 lastOf c = c .sessions .«last_index»
 
 -- starting and restarting
-module _ (c : Control) where
+module _ (c : Control) (now : ℕ) where
+  -- an initiation was sent with the index told
+  record SentOut (last : Control) : Type 0 where
+    used : lastOf last ≡ toldOf c
+    awaited : last .handshake .state ≡ InitSent (toldOf c) now
+
+  initiated : (last : Control) → last .sessions ≡ initiate c now .control .sessions → last .handshake ≡ initiate c now .control .handshake → SentOut last
+  unfolding initiate initiating initiateHandshake appendMac1AndMac2 nextIndex
+  initiated last s h = record { used = rw s refl; awaited = rw h refl }
+
   record InitiatesOut (out : Out) : Type 0 where
-    given : (index : ℕ) → out .answer ≡ Initiation index → (index ≡ toldOf c) × (lastOf (out .control) ≡ toldOf c)
+    given : (index : ℕ) → out .answer ≡ Initiation index → (index ≡ toldOf c) × SentOut (out .control)
     none : ((index : ℕ) → out .answer ≡ Initiation index → ⊥) → lastOf (out .control) ≡ lastOf c
 
   nothing : InitiatesOut (done c NoAnswer)
   unfolding done
   nothing = record { given = λ index e. let z : _≡_ {A = ℕ} 0 1 = cc in absurd (omega arith); none = λ f. refl }
 
-  initiates : (now : ℕ) → InitiatesOut (done (initiate c now .control) (Initiation (initiate c now .«local_index»)))
-  unfolding done initiate initiating nextIndex
-  initiates now = record { given = λ index e. ((cc), refl); none = λ f. absurd (f _ refl) }
+  initiates : InitiatesOut (done (initiate c now .control) (Initiation (initiate c now .«local_index»)))
+  unfolding done initiate nextIndex
+  initiates = record { given = λ index e. ((cc), initiated _ refl refl); none = λ f. absurd (f _ refl) }
 
-  restart-gives : (now : ℕ) → InitiatesOut (restartHandshake c now)
+  restart-gives : InitiatesOut (restartHandshake c now)
   unfolding restartHandshake
-  restart-gives now = of-choice InitiatesOut _ _ _ nothing (initiates now)
+  restart-gives = of-choice InitiatesOut _ _ _ nothing initiates
 
-  start-gives : (now : ℕ) → InitiatesOut (startHandshake c now)
+  start-gives : InitiatesOut (startHandshake c now)
   unfolding startHandshake
-  start-gives now = of-choice InitiatesOut _ _ _ nothing (restart-gives now)
+  start-gives = of-choice InitiatesOut _ _ _ nothing restart-gives
+
+-- the tunnel after it
+sent-with : (t last : Tunnel) (now : ℕ) → SentOut (t .control) now (last .control) → SentWith t last now
+sent-with t last now k = record { used = k .used; awaited = k .awaited }
 
 module _ (t : Tunnel) (now : ℕ) where
-  timed-gives : (out : Out) → InitiatesOut (t .control) out → Initiates t (timed t false now out)
+  timed-gives : (out : Out) → InitiatesOut (t .control) now out → Initiates t (timed t false now out) now
   unfolding settled refused
   timed-gives out k =
-      of-timed t false now (Initiates t) out
-      (λ z. record { given = k .given; none = k .none })
+      of-timed t false now (λ (a : Answered). Initiates t a now) out
+      (λ z. record { given = λ index e. (let g = k .given index e in (g .0, sent-with t _ now (g .1))); none = k .none })
       (λ z. record { given = λ index e. let y : _≡_ {A = ℕ} 0 1 = cc in absurd (omega arith); none = λ f. refl })
 
-  pub call-start-gives : Initiates t (callStart t now)
+  pub call-start-gives : Initiates t (callStart t now) now
   unfolding callStart
   call-start-gives = timed-gives _ (start-gives (t .control) now)
 
-  pub call-restart-gives : Initiates t (callRestart t now)
+  pub call-restart-gives : Initiates t (callRestart t now) now
   unfolding callRestart
   call-restart-gives = timed-gives _ (restart-gives (t .control) now)
 
--- an incoming initiation that is answered
-module _ (c : Control) where
-  abbrev Answers : Out → Type 0
-  Answers out = (index remote : ℕ) → out .answer ≡ Response index remote → (index ≡ toldOf c) × (lastOf (out .control) ≡ toldOf c)
+-- a session inserted fills its slot
+inserted-slot : (s : Sessions) (store : List ℕ) (x : Session) → length (s .slots) ≡ 8 → length store ≡ 1024 → x .filled ≡ true
+    → InSlot (insert s store x .sessions) (x .«receiving_index») (withId x (s .inserted))
+unfolding insert inserting put choose
+inserted-slot s store x n l f =
+    rw (eq-eqb (length store) 1024 l)
+    (record {
+      stored = getD-set-same (s .slots) (slotOf (x .«receiving_index»)) (withId x (s .inserted)) emptySession (omega arith);
+      filled = f;
+      named = refl;
+    })
 
-  incoming-gives : (store : List ℕ) (peer outcome now : ℕ) → Answers (handleHandshakeInitiation c store peer outcome now .out)
-  unfolding handleHandshakeInitiation respond responding refuse done nextIndex
-  incoming-gives store peer outcome now =
-      of-choice (λ (turn : Turn). Answers (turn .out)) _ _ _
+-- an incoming initiation that is answered
+module _ (c : Control) (store : List ℕ) (long : length store ≡ 1024) (eight : length (c .sessions .slots) ≡ 8) where
+  record AnsweredOut (last : Control) : Type 0 where
+    used : lastOf last ≡ toldOf c
+    session : Session
+    stored : InSlot (last .sessions) (toldOf c) session
+
+  abbrev Answers : Turn → Type 0
+  Answers turn = (index remote : ℕ) → turn .out .answer ≡ Response index remote → (index ≡ toldOf c) × AnsweredOut (turn .out .control)
+
+  new-stored : (peer now : ℕ) (x : Handshake) (s : Session) → newSession (toldOf c) peer Responder now ≡ s
+      → AnsweredOut (responding (withSessions c (nextIndex (c .sessions) .sessions)) x store s now)
+  unfolding responding nextIndex newSession
+  new-stored peer now x s e =
+      rw (← e)
+      (record {
+        used = on-insert (toldOf c) _ store _ refl;
+        session = withId (newSession (toldOf c) peer Responder now) (c .sessions .inserted);
+        stored = inserted-slot _ store (newSession (toldOf c) peer Responder now) eight long refl;
+      })
+
+  incoming-gives : (peer outcome now : ℕ) → Answers (handleHandshakeInitiation c store peer outcome now)
+  unfolding handleHandshakeInitiation respond refuse done nextIndex
+  incoming-gives peer outcome now =
+      of-choice Answers _ _ _
       (λ index remote e. let z : _≡_ {A = ℕ} 0 1 = cc in absurd (omega arith))
-      (known-completed (λ (turn : Turn). Answers (turn .out)) _ _ _
+      (known-completed Answers _ _ _
       (λ n index remote e. let z : _≡_ {A = ℕ} 0 1 = cc in absurd (omega arith))
-      (λ x s p index remote e. ((cc), on-insert (toldOf c) _ store s refl)))
+      (λ x s p index remote e. ((cc), new-stored peer now x s (initiation-opened (c .handshake) x (toldOf c) peer outcome now s p .1))))
 
 module _ (t : Tunnel) (store : List ℕ) (peer outcome now : ℕ) where
   abbrev came : Called
   came = callInitiation t store peer outcome now
 
-  pub initiation-gives : (index remote : ℕ) → came .answered .answer ≡ Response index remote
-      → (index ≡ toldIndex t) × (lastIndex (came .answered .tunnel) ≡ toldIndex t)
+  pub initiation-gives : length (t .control .sessions .slots) ≡ 8 → (index remote : ℕ) → came .answered .answer ≡ Response index remote
+      → (index ≡ toldIndex t) × AnsweredWith t (came .answered .tunnel)
   unfolding callInitiation timedTurn settled refused
-  initiation-gives =
+  initiation-gives eight =
       of-timed t (badOutcome (initiationOutcome outcome) store) now
-      (λ (a : Answered). (index remote : ℕ) → a .answer ≡ Response index remote → (index ≡ toldIndex t) × (lastIndex (a .tunnel) ≡ toldIndex t)) _
-      (λ z. incoming-gives (t .control) store peer (initiationOutcome outcome) now)
+      (λ (a : Answered). (index remote : ℕ) → a .answer ≡ Response index remote → (index ≡ toldIndex t) × AnsweredWith t (a .tunnel)) _
+      (λ z index remote e.
+      (let g =
+      incoming-gives (t .control) store (good-store (initiationOutcome outcome) store (gate-good t _ now z)) eight peer (initiationOutcome outcome) now index remote e in
+      (g .0, record { used = g .1 .used; session = g .1 .session; stored = g .1 .stored })))
       (λ z index remote e. let y : _≡_ {A = ℕ} 0 1 = cc in absurd (omega arith))
 
   pub initiation-failed : OfOutcome (numberOf (came .answered .answer)) → lastIndex (came .answered .tunnel) ≡ toldIndex t
@@ -149,9 +204,9 @@ module _ (c : Control) where
   sending store jitter now l d = rw (alive (expiredControl c) refl l, d) refl
 
   queues : (now : ℕ) → Ring (c .events)
-      → (queued (sendScheduled c now .events) ≡ newest (queued (c .events) ++ SendHandshakeInitiation (toldOf c) ∷ [])) × (lastOf (sendScheduled c now) ≡ toldOf c)
+      → (queued (sendScheduled c now .events) ≡ newest (queued (c .events) ++ SendHandshakeInitiation (toldOf c) ∷ [])) × SentOut c now (sendScheduled c now)
   unfolding sendScheduled queueing initiate initiating nextIndex
-  queues now ring = (queue-of-newest .pushed (c .events) (SendHandshakeInitiation (toldOf c)) ring, refl)
+  queues now ring = (queue-of-newest .pushed (c .events) (SendHandshakeInitiation (toldOf c)) ring, initiated c now _ refl refl)
 
 module _ (t : Tunnel) (store : List ℕ) (jitter now : ℕ) where
   abbrev woken : Answered
@@ -164,15 +219,15 @@ module _ (t : Tunnel) (store : List ℕ) (jitter now : ℕ) where
   its-ring long z = record { places = long; within = undamaged-facts t (gate-whole t bad now z) .control .events .ring }
 
   pub waking-gives : length (t .control .events .slots) ≡ 16 → numberOf (woken .answer) ≡ 0 → HandshakeDue t now
-      → (eventsOf (woken .tunnel) ≡ newest (eventsOf t ++ SendHandshakeInitiation (toldIndex t) ∷ [])) × (lastIndex (woken .tunnel) ≡ toldIndex t)
+      → (eventsOf (woken .tunnel) ≡ newest (eventsOf t ++ SendHandshakeInitiation (toldIndex t) ∷ [])) × SentWith t (woken .tunnel) now
   unfolding callTimeout timedTurn settled scheduledHandshake
   waking-gives long =
       of-timed t bad now
       (λ (a : Answered). numberOf (a .answer) ≡ 0 → HandshakeDue t now
-      → (eventsOf (a .tunnel) ≡ newest (eventsOf t ++ SendHandshakeInitiation (toldIndex t) ∷ [])) × (lastIndex (a .tunnel) ≡ toldIndex t)) _
+      → (eventsOf (a .tunnel) ≡ newest (eventsOf t ++ SendHandshakeInitiation (toldIndex t) ∷ [])) × SentWith t (a .tunnel) now) _
       (λ z e d.
       rw (sending (t .control) store jitter now (d .living) (due-of _ now (d .at) (d .scheduled) (d .come)))
-      (queues (t .control) now (its-ring long z)))
+      (let q = queues (t .control) now (its-ring long z) in (q .0, sent-with t _ now (q .1))))
       (λ z e d. absurd (z (rw (refused-number t (gate t bad now)) at e)))
 
   -- and one that sends none

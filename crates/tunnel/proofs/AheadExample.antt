@@ -32,6 +32,7 @@ pub computed : AheadExample
 unfolding choose noneOf zeros caseTime caseFound caseSelected slotHolds slotsHold wrappingIncrement selecting dueBy newSession emptySession emptySlots newSessions inSlotOf get put currentOf inCurrentSlot ahead nextIndex inserting insert select putSlot scheduledTunnel numberOf intervalOf initiationOutcome lacking badOutcome badJitter caseEvent caseState caseCompleted caseInterval newControl refuse done expiredControl queueing timeHolds stateHolds inRange intervalHolds bothAtMost eventHolds queueHolds eventsHold handshakeHolds packetTimersHold dataTimersHold fieldsHold timersHold storedHolds controlHolds undamaged responding respond handleHandshakeInitiation sendScheduled handleDue handleTimeout newHandshake isInProgress isExpired appendMac1AndMac2 initiateHandshake receiveHandshakeInitialization initiating initiate restartHandshake startHandshake scheduledHandshake placeOf emptyPlaces newRing storeAt pushBack eventsFrom queued newTimers tickLastHandshakeCompleted tickLastHandshakeStarted tickLastPacketReceived tickLastPacketSent getOr scheduleHandshake cancelScheduledHandshake tickResponse tickInitiation newTunnel gate refused settled timed kept timedTurn callStart callRestart callInitiation callTimeout
 computed =
     record {
+      eight = refl;
       sixteen = refl;
       index = refl;
       start = refl;

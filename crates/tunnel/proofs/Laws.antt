@@ -137,19 +137,19 @@ setting-law t store =
     }
 
 -- the index told ahead
-pub ahead-law : (t : Tunnel) (store : List ℕ) → length (t .control .events .slots) ≡ 16 → AheadLaw t store
+pub ahead-law : (t : Tunnel) (store : List ℕ) → length (t .control .sessions .slots) ≡ 8 → length (t .control .events .slots) ≡ 16 → AheadLaw t store
 unfolding callSend callReceive callLook callResponse callCookie callEvent callDeadline callMissing timedTurn timedBatch pollEvent
-ahead-law t store long =
+ahead-law t store eight sixteen =
     let Same : Control → Type 0 = λ (c : Control). Last (lastIndex t) (c .sessions) in
     let i : Interval = settingOf t in
     record {
       new = new-gives store;
       start = call-start-gives t;
       restart = call-restart-gives t;
-      initiation = initiation-gives t store;
+      initiation = λ peer outcome now. initiation-gives t store peer outcome now eight;
       failed = initiation-failed t store;
       refused = initiation-refused t store;
-      sent = λ jitter now. waking-gives t store jitter now long;
+      sent = λ jitter now. waking-gives t store jitter now sixteen;
       unsent = waking-unsent t store;
       send = λ count now. on-timed Same t refl _ now _ (on-send i _ _ count now (refl, refl) .1);
       receive = λ index id now counters kinds verdicts skips.

@@ -4,8 +4,9 @@ use mathlib.Core.List.{List, [], _∷_, _++_}
 use Prim.Native.Nat.{ℕ, _≤_}
 use lib.ListN.{length}
 use Rattle.base.specs.Lists.{zeros}
-use Rattle.sessions.specs.Laws.{selecting}
+use Rattle.sessions.specs.Laws.{selecting, InSlot}
 use Rattle.sessions.specs.Sessions.{ahead}
+use Rattle.sessions.specs.declared.session.Session.{Session}
 use Rattle.sessions.specs.declared.session.Time.the-variants.{At}
 use Rattle.tunnel.specs.AfterStates.{withControl, OfOutcome, IsExpired}
 use Rattle.tunnel.specs.Answer.{numberOf}
@@ -16,6 +17,7 @@ use Rattle.tunnel.specs.Tunnel.{newTunnel, callNew, callStart, callResta
 use Rattle.tunnel.specs.declared.answer.Answer.the-variants.{No, NoAnswer, Initiation, Response}
 use Rattle.tunnel.specs.declared.event.Event.the-variants.{SendHandshakeInitiation}
 use Rattle.tunnel.specs.declared.event.Event.{Event}
+use Rattle.tunnel.specs.declared.handshake.HandshakeState.the-variants.{InitSent}
 use Rattle.tunnel.specs.declared.tunnel.Answered.{Answered}
 use Rattle.tunnel.specs.declared.tunnel.Tunnel.{Tunnel}
 
@@ -31,9 +33,20 @@ lastIndex t = t .control .sessions .«last_index»
 abbrev pub eventsOf : Tunnel → List Event
 eventsOf t = queued (t .control .events)
 
--- What starting or restarting leaves: the initiation that it answers has the index told, which is used up; without one none is.
-pub record Initiates (t : Tunnel) (a : Answered) : Type 0 where
-  pub given : (index : ℕ) → a .answer ≡ Initiation index → (index ≡ toldIndex t) × (lastIndex (a .tunnel) ≡ toldIndex t)
+-- An initiation was sent with the index told: it is used up, and a response to it is awaited.
+pub record SentWith (t last : Tunnel) (now : ℕ) : Type 0 where
+  pub used : lastIndex last ≡ toldIndex t
+  pub awaited : last .control .handshake .state ≡ InitSent (toldIndex t) now
+
+-- An initiation was answered with the index told: it is used up, and a session that has it fills its slot.
+pub record AnsweredWith (t last : Tunnel) : Type 0 where
+  pub used : lastIndex last ≡ toldIndex t
+  pub session : Session
+  pub stored : InSlot (last .control .sessions) (toldIndex t) session
+
+-- What starting or restarting leaves: the initiation that it answers was sent with the index told; without one none is used up.
+pub record Initiates (t : Tunnel) (a : Answered) (now : ℕ) : Type 0 where
+  pub given : (index : ℕ) → a .answer ≡ Initiation index → (index ≡ toldIndex t) × SentWith t (a .tunnel) now
   pub none : ((index : ℕ) → a .answer ≡ Initiation index → ⊥) → lastIndex (a .tunnel) ≡ lastIndex t
 
 -- A waking at this time that is let through sends a scheduled handshake: the tunnel is not expired, and the scheduled time has come.
@@ -48,11 +61,11 @@ pub record AheadLaw (t : Tunnel) (store : List ℕ) : Type 0 where
   -- a creation that is not turned down has used up the index that it was given
   pub new : (index keepalive now : ℕ) → numberOf (callNew store index keepalive now .answered .answer) ≡ 0
       → lastIndex (callNew store index keepalive now .answered .tunnel) ≡ index
-  pub start : (now : ℕ) → Initiates t (callStart t now)
-  pub restart : (now : ℕ) → Initiates t (callRestart t now)
+  pub start : (now : ℕ) → Initiates t (callStart t now) now
+  pub restart : (now : ℕ) → Initiates t (callRestart t now) now
   -- an incoming initiation, answered or turned down by 3, 4, 5 or 7, and where it is turned down by another number
   pub initiation : (peer outcome now index remote : ℕ) → callInitiation t store peer outcome now .answered .answer ≡ Response index remote
-      → (index ≡ toldIndex t) × (lastIndex (callInitiation t store peer outcome now .answered .tunnel) ≡ toldIndex t)
+      → (index ≡ toldIndex t) × AnsweredWith t (callInitiation t store peer outcome now .answered .tunnel)
   pub failed : (peer outcome now : ℕ) → OfOutcome (numberOf (callInitiation t store peer outcome now .answered .answer))
       → lastIndex (callInitiation t store peer outcome now .answered .tunnel) ≡ toldIndex t
   pub refused : (peer outcome now : ℕ) → (numberOf (callInitiation t store peer outcome now .answered .answer) ≡ 0 → ⊥)
@@ -61,7 +74,7 @@ pub record AheadLaw (t : Tunnel) (store : List ℕ) : Type 0 where
   -- a waking that sends a scheduled handshake queues its initiation behind the events there, and any other one uses up none
   pub sent : (jitter now : ℕ) → numberOf (callTimeout t store jitter now .answered .answer) ≡ 0 → HandshakeDue t now
       → (eventsOf (callTimeout t store jitter now .answered .tunnel) ≡ newest (eventsOf t ++ SendHandshakeInitiation (toldIndex t) ∷ []))
-      × (lastIndex (callTimeout t store jitter now .answered .tunnel) ≡ toldIndex t)
+      × SentWith t (callTimeout t store jitter now .answered .tunnel) now
   pub unsent : (jitter now : ℕ) → (numberOf (callTimeout t store jitter now .answered .answer) ≡ 0 → HandshakeDue t now → ⊥)
       → lastIndex (callTimeout t store jitter now .answered .tunnel) ≡ lastIndex t
   -- no other call uses one up
@@ -83,6 +96,7 @@ scheduledTunnel =
 
 -- The premises hold: 256 is passed over, and each call that allocates gives 257.
 pub record AheadExample : Type 0 where
+  pub eight : length (scheduledTunnel .control .sessions .slots) ≡ 8
   pub sixteen : length (scheduledTunnel .control .events .slots) ≡ 16
   pub index : toldIndex scheduledTunnel ≡ 257
   pub start : callStart scheduledTunnel 7 .answer ≡ Initiation 257

@@ -52,7 +52,7 @@ pub fn setting_law()
 
 // Each call that allocates a local index gives the one told just before it, and no other call uses one up.
 pub fn ahead_law()
-    ensures { λ r. ⌜ ((t : Tunnel) (store : List ℕ) → length (t .control .events .slots) ≡ 16 → AheadLaw t store) ⌝ }
+    ensures { λ r. ⌜ ((t : Tunnel) (store : List ℕ) → length (t .control .sessions .slots) ≡ 8 → length (t .control .events .slots) ≡ 16 → AheadLaw t store) ⌝ }
 {}
 
 // There is a tunnel on which each of these calls allocates an index, two numbers on.
