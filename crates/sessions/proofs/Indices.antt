@@ -83,13 +83,13 @@ module _ (s : Sessions) where
   unfolding ahead choose
   tells-one e = rw e refl
 
-  pub takes-two : (index : ℕ) (x : Session) → SlotTaken s index x → ahead s .tries ≡ 2
-  takes-two index x t = rw (tells-two (taken-tested index x t)) refl
+  pub tries-two : (index : ℕ) (x : Session) → SlotTaken s index x → ahead s .tries ≡ 2
+  tries-two index x t = rw (tells-two (taken-tested index x t)) refl
 
-  pub takes-one : ((index : ℕ) (x : Session) → SlotTaken s index x → ⊥) → ahead s .tries ≡ 1
-  takes-one none = rw (tells-one (none-tested none)) refl
+  pub tries-one : ((index : ℕ) (x : Session) → SlotTaken s index x → ⊥) → ahead s .tries ≡ 1
+  tries-one none = rw (tells-one (none-tested none)) refl
 
-  -- its low byte, its upper bits and its slot
+  -- its low byte and its upper bits, and that it is in another slot than the current session
   pub record Moves (a : Ahead) : Type 0 where
     pub low : a .index % 256 ≡ (s .«last_index» + a .tries) % 256
     pub upper : a .index / 256 ≡ s .«last_index» / 256

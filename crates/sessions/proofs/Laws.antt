@@ -23,7 +23,7 @@ use Rattle.sessions.specs.declared.sessions.Missing.the-variants.{Count}
 use Rattle.sessions.specs.declared.session.Session.{Session}
 use Rattle.sessions.specs.declared.sessions.Sessions.{Sessions}
 use Rattle.sessions.proofs.Apart.{kept-insert, kept-expire}
-use Rattle.sessions.proofs.Indices.{first, takes-two, takes-one, moves, other-slot}
+use Rattle.sessions.proofs.Indices.{first, tries-two, tries-one, moves, other-slot}
 use Rattle.sessions.proofs.Heard.{heard-by, in-heard, none-heard}
 use Rattle.sessions.proofs.Lookups.{got-slot, current-slot, received-slot}
 use Rattle.sessions.proofs.Looks.{look-numbers}
@@ -65,8 +65,8 @@ unfolding nextIndex
 next-index-law s =
     let m = moves s (inCurrentSlot s (first s)) refl in
     record {
-      two = takes-two s;
-      one = takes-one s;
+      two = tries-two s;
+      one = tries-one s;
       low = m .low;
       upper = m .upper;
       apart = other-slot s (inCurrentSlot s (first s)) refl;

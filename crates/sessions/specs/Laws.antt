@@ -1,6 +1,6 @@
--- What follows from the definitions: what the lookups find, which slots a call touches, how many words it leaves, which index is told ahead and allocated, which
--- lists make a batch, what a batch leaves that is turned down or empty, when a session was last heard, which numbers an early look gives, which
--- counters a missing report counts, which are left to grant, and how a range is cut.
+-- What follows from the definitions: what the lookups find, which slots a call touches, how many words it leaves, which index is told ahead and
+-- allocated, which lists make a batch, what a batch leaves that is turned down or empty, when a session was last heard, which numbers an early
+-- look gives, which counters a missing report counts, which are left to grant, and how a range is cut.
 use mathlib.Core.Path.{_≡_}
 use mathlib.Core.Bool.{Bool, true, false}
 use mathlib.Core.List.{List, [], _∷_, _++_}
@@ -74,7 +74,7 @@ pub record NextIndexLaw (s : Sessions) : Type 0 where
   pub given : nextIndex s .index ≡ ahead s .index
   pub stored : nextIndex s .sessions ≡ withLastIndex s (ahead s .index)
 
--- sessions with one of this index, which is selected, and with another index last allocated
+-- sessions with one of the first index, which is selected, and with the second index last allocated
 unfoldable pub selecting : (index last : ℕ) → Sessions
 selecting index last = select (put (newSessions last) (newSession index 9 Initiator 0)) index
 

@@ -87,7 +87,8 @@ inCurrentSlot s index = caseFound (currentOf s) false (λ session. eqb (slotOf (
 abbrev pub told : (index tries : ℕ) → Ahead
 told index tries = record { index = index; tries = tries }
 
--- what the next allocation gives: the following number, or the one after it where that has the current session's slot
+-- what the next allocation gives: the following number, or the one after it where that has the current session's slot; two numbers in a row never
+-- have the same slot, so the loop of the Rust's `next_index` ends there
 unfoldable pub ahead : Sessions → Ahead
 ahead s =
     choose (inCurrentSlot s (wrappingIncrement (s .«last_index»)))

@@ -7,18 +7,16 @@ use Prim.Native.Nat.{ℕ, _≤_}
 use native.Mathlib.Omega.{arith}
 use lib.Dec.{eqb}
 use lib.ListN.{length}
-use lib.Seq.{getD-set-same}
-use borrow.Author.Tests.{eqb-false, eq-eqb, leb-true, le-leb}
+use borrow.Author.Tests.{eqb-false, leb-true, le-leb}
 use Rattle.base.proofs.Choice.{known-choice, of-choice}
 use Rattle.base.specs.Choice.{choose}
+use Rattle.sessions.proofs.Laws.{lookup-law}
 use Rattle.sessions.specs.Cases.{caseTime}
-use Rattle.sessions.specs.Index.{slotOf}
 use Rattle.sessions.specs.Laws.{InSlot}
-use Rattle.sessions.specs.Session.{dueBy, newSession, withId, emptySession}
-use Rattle.sessions.specs.Sessions.{newSessions, put, ahead, nextIndex, inserting, insert}
+use Rattle.sessions.specs.Session.{dueBy, newSession, withId}
+use Rattle.sessions.specs.Sessions.{newSessions, ahead, nextIndex}
 use Rattle.sessions.specs.declared.session.Role.the-variants.{Responder}
 use Rattle.sessions.specs.declared.session.Session.{Session}
-use Rattle.sessions.specs.declared.sessions.Sessions.{Sessions}
 use Rattle.sessions.specs.declared.session.Time.the-variants.{Never, At}
 use Rattle.sessions.specs.declared.session.Time.{Time}
 use Rattle.tunnel.proofs.Exceptions.{incoming-down, incoming-failed}
@@ -28,6 +26,7 @@ use Rattle.tunnel.proofs.Lasting.{on-insert, on-unsent}
 use Rattle.tunnel.proofs.Numbers.{Living, is-dead, is-living}
 use Rattle.tunnel.proofs.Opened.{initiation-opened}
 use Rattle.tunnel.proofs.Queue.{queue-of-newest}
+use Rattle.tunnel.proofs.Responses.{inserted-found}
 use Rattle.tunnel.proofs.SoundCalls.{good-store}
 use Rattle.tunnel.proofs.TurnedDown.{refused-number, of-timed}
 use Rattle.tunnel.specs.AfterStates.{TurnedDown, OfOutcome}
@@ -111,18 +110,6 @@ module _ (t : Tunnel) (now : ℕ) where
   unfolding callRestart
   call-restart-gives = timed-gives _ (restart-gives (t .control) now)
 
--- a session inserted fills its slot
-inserted-slot : (s : Sessions) (store : List ℕ) (x : Session) → length (s .slots) ≡ 8 → length store ≡ 1024 → x .filled ≡ true
-    → InSlot (insert s store x .sessions) (x .«receiving_index») (withId x (s .inserted))
-unfolding insert inserting put choose
-inserted-slot s store x n l f =
-    rw (eq-eqb (length store) 1024 l)
-    (record {
-      stored = getD-set-same (s .slots) (slotOf (x .«receiving_index»)) (withId x (s .inserted)) emptySession (omega arith);
-      filled = f;
-      named = refl;
-    })
-
 -- an incoming initiation that is answered
 module _ (c : Control) (store : List ℕ) (long : length store ≡ 1024) (eight : length (c .sessions .slots) ≡ 8) where
   record AnsweredOut (last : Control) : Type 0 where
@@ -141,7 +128,7 @@ module _ (c : Control) (store : List ℕ) (long : length store ≡ 1024) (eight 
       (record {
         used = on-insert (toldOf c) _ store _ refl;
         session = withId (newSession (toldOf c) peer Responder now) (c .sessions .inserted);
-        stored = inserted-slot _ store (newSession (toldOf c) peer Responder now) eight long refl;
+        stored = lookup-law _ .found (toldOf c) _ (inserted-found _ store (toldOf c) peer Responder now eight long);
       })
 
   incoming-gives : (peer outcome now : ℕ) → Answers (handleHandshakeInitiation c store peer outcome now)

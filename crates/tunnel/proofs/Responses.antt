@@ -30,6 +30,7 @@ use Rattle.sessions.specs.Sessions.{inSlotOf, get, put, currentOf, inserting, i
 use Rattle.sessions.specs.declared.session.Reserved.the-variants.{First}
 use Rattle.sessions.specs.declared.session.Reserved.{Reserved}
 use Rattle.sessions.specs.declared.session.Role.the-variants.{Initiator}
+use Rattle.sessions.specs.declared.session.Role.{Role}
 use Rattle.sessions.specs.declared.session.Session.{Session}
 use Rattle.sessions.specs.declared.sessions.Found.the-variants.{Nothing, Got}
 use Rattle.sessions.specs.declared.sessions.Found.{Found}
@@ -71,13 +72,13 @@ module _ (s : Sessions) (index : ℕ) (x : Session) (found : get s index ≡ Got
       (λ e. ap currentOf (found-or (get s index) x s _ found ∙ selects) ∙ current-select s index ∙ found)
 
 -- a session just inserted is found by its index
-inserted-found : (s : Sessions) (store : List ℕ) (local peer now : ℕ) → length (s .slots) ≡ 8 → length store ≡ 1024
-    → get (insert s store (newSession local peer Initiator now) .sessions) local ≡ Got (withId (newSession local peer Initiator now) (s .inserted))
+pub inserted-found : (s : Sessions) (store : List ℕ) (local peer : ℕ) (role : Role) (now : ℕ) → length (s .slots) ≡ 8 → length store ≡ 1024
+    → get (insert s store (newSession local peer role now) .sessions) local ≡ Got (withId (newSession local peer role now) (s .inserted))
 unfolding get inSlotOf insert inserting put newSession choose caseFound
-inserted-found s store local peer now n l =
+inserted-found s store local peer role now n l =
     rw (
       eq-eqb (length store) 1024 l,
-      getD-set-same (s .slots) (local % 8) (withId (newSession local peer Initiator now) (s .inserted)) emptySession (omega arith),
+      getD-set-same (s .slots) (local % 8) (withId (newSession local peer role now) (s .inserted)) emptySession (omega arith),
       eq-eqb local local refl,
     )
 
@@ -144,7 +145,7 @@ module _ (c : Control) (handshake : Handshake) (store : List ℕ) (receiver peer
   newest y p = current-established (stored .sessions) now (stored-sound .within) (currentOf (stored .sessions)) y p refl
 
   pub response-current : currentOf (setCurrent (stored .sessions) receiver) ≡ Got (withId its (c .sessions .inserted))
-  response-current = newest-current (stored .sessions) receiver _ (inserted-found (c .sessions) store receiver peer now (w .eight) l) newest
+  response-current = newest-current (stored .sessions) receiver _ (inserted-found (c .sessions) store receiver peer Initiator now (w .eight) l) newest
 
   pub response-good : complete c handshake store its receiver now
       ≡ done (encryptKeepalive (confirming stored receiver now) now .control) (Keepalive peer 0)
