@@ -17,7 +17,7 @@ use Rattle.tunnel.specs.Damage.{undamaged}
 use Rattle.tunnel.specs.Facts.{Undamaged}
 use Rattle.tunnel.specs.Handshake.{isExpired}
 use Rattle.tunnel.specs.Numbers.{Alive}
-use Rattle.tunnel.specs.Tunnel.{gate, settled, timed}
+use Rattle.tunnel.specs.Tunnel.{gate, letThrough, timed}
 use Rattle.tunnel.specs.declared.control.Out.{Out}
 use Rattle.tunnel.specs.declared.handshake.HandshakeState as states
 use Rattle.tunnel.specs.declared.handshake.HandshakeState.the-variants.{None, InitSent}
@@ -31,7 +31,7 @@ module _ (t : Tunnel) (bad : Bool) (now : ℕ) where
   gate-open u b l g = rw (le-ltb timeLimit now l, b, u, le-ltb now (t .greatest) g) refl
 
   pub timed-open : (out : Out) → gate t bad now ≡ 0 → timed t bad now out .answer ≡ out .answer
-  unfolding timed settled choose
+  unfolding timed letThrough choose
   timed-open out e = rw e refl
 
 -- the test for an expired tunnel

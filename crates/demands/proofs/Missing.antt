@@ -38,7 +38,7 @@ use Rattle.sessions.specs.declared.sessions.Sessions.{Sessions}
 use Rattle.tunnel.specs.Answer.{numberOf, valuesOf}
 use Rattle.tunnel.specs.Arguments.{lacking}
 use Rattle.tunnel.specs.Sound.{Sound}
-use Rattle.tunnel.specs.Tunnel.{timelessGate, settled, timeless, callMissing}
+use Rattle.tunnel.specs.Tunnel.{timelessGate, letThrough, timeless, callMissing}
 
 -- a counter of the history's window is missing or committed
 parted : (b : Bool) → choose b 0 1 + choose b 1 0 ≡ 1
@@ -92,7 +92,7 @@ module _ (w : World) (ins : List Insertion) (h : ℕ → Past) (g k : List Grant
   -- an index that no filled slot holds
   unheld : (index : ℕ) → ((slot : ℕ) → slot < 8 → slotAt s slot .filled ≡ true → slotAt s slot .«receiving_index» ≡ index → ⊥)
       → numberOf (step w (missing index) .answer) ≡ 12
-  unfolding step callMissing timeless settled missingReport caseMissing refuse numberOf choose
+  unfolding step callMissing timeless letThrough missingReport caseMissing refuse numberOf choose
   unheld index none =
       rw (passes, no-report-law s (w .store) index (λ x i. none (slotOf index) (omega arith) (rw (i .stored) (i .filled)) (rw (i .stored) (i .named))) (y .held .size) .number) refl
 
@@ -116,7 +116,7 @@ module _ (w : World) (ins : List Insertion) (h : ℕ → Past) (g k : List Grant
     missed = rw (eq-eqb (length (w .store)) 1024 (y .held .size), found, its .placed) (ap Count (counts .counts))
 
     reported : step w (missing (x .«receiving_index»)) .answer ≡ Report (uncommitted (h (x .id) .history))
-    unfolding step callMissing timeless settled missingReport caseMissing choose
+    unfolding step callMissing timeless letThrough missingReport caseMissing choose
     reported = rw (passes, missed)
 
     abbrev answer : Answer

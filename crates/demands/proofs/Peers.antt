@@ -22,7 +22,7 @@ use Rattle.sessions.specs.declared.range.Range.{Range}
 use Rattle.sessions.specs.declared.session.Session.{Session}
 use Rattle.sessions.specs.declared.sessions.Found.the-variants.{Got}
 use Rattle.tunnel.specs.Cases.{caseEvent}
-use Rattle.tunnel.specs.Tunnel.{refused, settled, timed, callSend}
+use Rattle.tunnel.specs.Tunnel.{refused, letThrough, timed, callSend}
 use Rattle.tunnel.specs.declared.answer.Answer.the-variants.{Granted}
 use Rattle.tunnel.specs.declared.control.Out.{Out}
 use Rattle.tunnel.specs.declared.event.Event.the-variants.{Empty, SendKeepalive}
@@ -51,7 +51,7 @@ module _ (w : World) (ins : List Insertion) (h : ℕ → Past) (g k : List Grant
   refused-none number range e = let z : _≡_ {A = ℕ} 0 1 = cc in absurd (omega arith)
 
   pub sends : (count now : ℕ) (range : Range) → step w (send count now) .answer ≡ Granted range → Whose (range .peer)
-  unfolding step callSend timed settled
+  unfolding step callSend timed letThrough
   sends count now range =
       of-choice (λ (a : Answered). a .answer ≡ Granted range → Whose (range .peer)) _ _ _
       (of-sends _ range (sends-some (w .tunnel .control) (w .store) count now)) (refused-none _ range)

@@ -20,7 +20,7 @@ use Rattle.sessions.specs.Session.{timeLimit}
 use Rattle.base.specs.Lists.{zeros}
 use Rattle.tunnel.specs.Damage.{undamaged}
 use Rattle.tunnel.specs.Sound.{Sound}
-use Rattle.tunnel.specs.Tunnel.{newTunnel, gate, timelessGate, refused, settled, timed, timeless, kept, timedTurn, timedBatch, callStart, callRestart, callSend, callReceive, callLook, callInitiation, callResponse, callCookie, callTimeout, callEvent, callMissing}
+use Rattle.tunnel.specs.Tunnel.{newTunnel, gate, timelessGate, refused, letThrough, timed, timeless, kept, timedTurn, timedBatch, callStart, callRestart, callSend, callReceive, callLook, callInitiation, callResponse, callCookie, callTimeout, callEvent, callMissing}
 use Rattle.tunnel.specs.declared.tunnel.Answered.{Answered}
 use Rattle.tunnel.specs.declared.tunnel.Tunnel.{Tunnel}
 
@@ -32,7 +32,7 @@ ranOf t store = record { control = t .control; store = store; clock = t .greates
 module _ (t : Tunnel) (store : List ℕ) (u : undamaged t ≡ true) where
   took-is : (bad : Bool) (now : ℕ) (out : Out) (left : List ℕ)
       → took (ranOf t store) bad now out left ≡ ranOf (timed t bad now out .tunnel) (kept t bad now store left)
-  unfolding took timed kept gate settled refused choose
+  unfolding took timed kept gate letThrough refused choose
   took-is bad now out left = go (ltb timeLimit now) bad (ltb now (t .greatest)) refl refl
     where
       go : (late is back : Bool) → ltb timeLimit now ≡ late → ltb now (t .greatest) ≡ back
@@ -58,16 +58,16 @@ module _ (t : Tunnel) (store : List ℕ) (u : undamaged t ≡ true) where
   unfolding missingReport refuse
   missing-stays index = of-missing Stays _ _ _ (λ n. record { control = refl; raises = refl }) (λ n. record { control = refl; raises = refl })
 
-  stays-settled : (out : Out) → Stays out → ranOf t store ≡ ranOf (settled t 0 out .tunnel) store
-  unfolding settled choose
-  stays-settled out h = rw (h .control, h .raises) refl
+  stays-let-through : (out : Out) → Stays out → ranOf t store ≡ ranOf (letThrough t 0 out .tunnel) store
+  unfolding letThrough choose
+  stays-let-through out h = rw (h .control, h .raises) refl
 
   stays-timeless : (bad : Bool) (out : Out) → Stays out → ranOf t store ≡ ranOf (timeless t bad out .tunnel) store
   unfolding timeless refused
-  stays-timeless bad out h = of-choice (λ (a : Answered). ranOf t store ≡ ranOf (a .tunnel) store) _ _ _ (stays-settled out h) refl
+  stays-timeless bad out h = of-choice (λ (a : Answered). ranOf t store ≡ ranOf (a .tunnel) store) _ _ _ (stays-let-through out h) refl
 
   event-is : ran (ranOf t store) event ≡ ranOf (callEvent t .tunnel) store
-  unfolding ran callEvent timeless timelessGate settled pollEvent choose
+  unfolding ran callEvent timeless timelessGate letThrough pollEvent choose
   event-is = rw u refl
 
 -- the Rust after a call

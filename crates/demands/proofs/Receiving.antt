@@ -38,7 +38,7 @@ use Rattle.sessions.specs.declared.sessions.Sessions.{Sessions}
 use Rattle.base.proofs.Choice.{no-fault}
 use Rattle.tunnel.proofs.Laws.{gate-law}
 use Rattle.tunnel.specs.Arguments.{lacking, badBatch}
-use Rattle.tunnel.specs.Tunnel.{gate, refused, settled, timed, kept, timedBatch, callReceive}
+use Rattle.tunnel.specs.Tunnel.{gate, refused, letThrough, timed, kept, timedBatch, callReceive}
 use Rattle.tunnel.specs.Answer.{numberOf}
 use Rattle.tunnel.specs.Damage.{undamaged}
 
@@ -130,7 +130,7 @@ module _ (w : World) (u : undamaged (w .tunnel) ≡ true) (ins : List Insertion)
   skip-list-is = rw alive (law .skips)
 
   good : numberOf (step w (receiving b) .answer) ≡ 0
-  unfolding step callReceive timedBatch timed settled choose numberOf
+  unfolding step callReceive timedBatch timed letThrough choose numberOf
   good = rw (passes, answer-is) refl
 
   verdicts-are : step w (receiving b) .verdicts ≡ verdictsOn (h (b .id) .history) (b .counters) (b .kinds)
@@ -181,7 +181,7 @@ module _ (w : World) (u : undamaged (w .tunnel) ≡ true) (b : Batch) where
   good-passes : (opens ended whole fit : Bool) (found : Found) → eqb (gate (w .tunnel) bad (b .now)) 0 ≡ opens
       → expiredControl (w .tunnel .control) ≡ ended → eqb (length (w .store)) 1024 ≡ whole → fits (b .counters) (b .kinds) (b .verdicts) (b .skips) ≡ fit → came ≡ found
       → numberOf (step w (receiving b) .answer) ≡ 0 → Passes
-  unfolding step callReceive timedBatch timed settled refused commitDecapsulate refuse receive caseReceived caseFound numberOf choose
+  unfolding step callReceive timedBatch timed letThrough refused commitDecapsulate refuse receive caseReceived caseFound numberOf choose
   good-passes false ended whole fit found p q r f e z = absurd (eqb-false _ 0 p (rw p at z))
   good-passes true true whole fit found p q r f e z = absurd (omega (arith, rw (p, q) at z))
   good-passes true false false fit found p q r f e z = absurd (omega (arith, rw (p, q, r) at z))

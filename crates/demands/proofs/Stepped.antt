@@ -49,7 +49,7 @@ use Rattle.sessions.specs.declared.sessions.Found.the-variants.{Got}
 use Rattle.tunnel.proofs.Laws.{gate-law, response-law}
 use Rattle.tunnel.specs.Arguments.{initiationOutcome, openingOutcome}
 use Rattle.tunnel.specs.Sound.{Sound}
-use Rattle.tunnel.specs.Tunnel.{Called, gate, refused, settled, timed, timeless, kept, timedTurn, timedBatch, callStart, callRestart, callSend, callReceive, callLook, callInitiation, callResponse, callCookie, callTimeout, callEvent, callDeadline, callMissing}
+use Rattle.tunnel.specs.Tunnel.{Called, gate, refused, letThrough, timed, timeless, kept, timedTurn, timedBatch, callStart, callRestart, callSend, callReceive, callLook, callInitiation, callResponse, callCookie, callTimeout, callEvent, callDeadline, callMissing}
 use Rattle.tunnel.specs.declared.tunnel.Answered.{Answered}
 use Rattle.tunnel.specs.HandleTimeout.{handleTimeout}
 
@@ -84,13 +84,13 @@ module _ (ins : List Insertion) (h : ℕ → Past) (g k : List Grant) (polls : L
 
   quiet-timed : (bad : Bool) (now : ℕ) (out : Out) → Idle (w .tunnel .control) (w .store) out (w .store)
       → Quiet ins h g k polls (w .store) (timed (w .tunnel) bad now out)
-  unfolding timed settled
+  unfolding timed letThrough
   quiet-timed bad now out i =
       of-choice (λ (a : Answered). Quiet ins h g k polls (w .store) a) _ _ _ (record { known = i .known ins h g k polls y; plain = i .plain }) (turned-down _)
 
   quiet-timeless : (bad : Bool) (out : Out) → Idle (w .tunnel .control) (w .store) out (w .store)
       → Quiet ins h g k polls (w .store) (timeless (w .tunnel) bad out)
-  unfolding timeless settled
+  unfolding timeless letThrough
   quiet-timeless bad out i =
       of-choice (λ (a : Answered). Quiet ins h g k polls (w .store) a) _ _ _ (record { known = i .known ins h g k polls y; plain = i .plain }) (turned-down _)
 
@@ -138,7 +138,7 @@ module _ (ins : List Insertion) (h : ℕ → Past) (g k : List Grant) (polls : L
       (append-nil k) refl (known-event (w .tunnel .control) (w .store) ins h g k polls y)
 
   next-event : Next ins h g k polls w event (step w event)
-  unfolding step callEvent timeless settled committing hearing caseBatch wokenGrant caseWaking insertionBy caseMessage
+  unfolding step callEvent timeless letThrough committing hearing caseBatch wokenGrant caseWaking insertionBy caseMessage
   next-event =
       of-choice (λ (a : Answered). Then (choose (eqb (numberOf (a .answer)) 0) [] []) (a .answer) (a .tunnel .control) (w .store)) _ _ _
       (of-event _ (same-choice _ [])) (next-quiet _ _ (same-choice _ []) (turned-down _))
@@ -153,7 +153,7 @@ module _ (ins : List Insertion) (h : ℕ → Past) (g k : List Grant) (polls : L
       (v .known ins h g k polls y)
 
   next-send : (count now : ℕ) → Next ins h g k polls w (send count now) (step w (send count now))
-  unfolding step callSend timed settled committing hearing caseBatch wokenGrant caseWaking insertionBy caseMessage
+  unfolding step callSend timed letThrough committing hearing caseBatch wokenGrant caseWaking insertionBy caseMessage
   next-send count now =
       of-choice (λ (a : Answered). Then (choose (eqb (numberOf (a .answer)) 0) [] []) (a .answer) (a .tunnel .control) (w .store)) _ _ _
       (of-send _ _ (same-choice _ []) (sends-some (w .tunnel .control) (w .store) count now)) (next-quiet _ _ (same-choice _ []) (turned-down _))
@@ -210,12 +210,12 @@ module _ (ins : List Insertion) (h : ℕ → Past) (g k : List Grant) (polls : L
     of-batch : (b : Batched Out) → Judged (w .tunnel .control) (w .store) id now counters b
         → Next ins h g k polls w batch
         (record {
-          world = record { tunnel = settled (w .tunnel) now (b .out) .tunnel; store = b .store };
-          answer = settled (w .tunnel) now (b .out) .answer;
+          world = record { tunnel = letThrough (w .tunnel) now (b .out) .tunnel; store = b .store };
+          answer = letThrough (w .tunnel) now (b .out) .answer;
           verdicts = b .verdicts;
           skips = b .skips;
         })
-    unfolding settled
+    unfolding letThrough
     of-batch b (turned number e d i) = next-turned _ number e d (i .known ins h g k polls y)
     of-batch b (taken e v) = next-taken _ e (λ i mine others. v ins h i g k polls y mine others)
 
@@ -223,7 +223,7 @@ module _ (ins : List Insertion) (h : ℕ → Past) (g k : List Grant) (polls : L
     framed : (number : ℕ) (b : Batched Out) → Batched Answered
     framed number b =
         record {
-          out = choose (eqb number 0) (settled (w .tunnel) now (b .out)) (refused (w .tunnel) number);
+          out = choose (eqb number 0) (letThrough (w .tunnel) now (b .out)) (refused (w .tunnel) number);
           store = choose (eqb number 0) (b .store) (w .store);
           verdicts = choose (eqb number 0) (b .verdicts) verdicts;
           skips = choose (eqb number 0) (b .skips) skips;
@@ -243,7 +243,7 @@ module _ (ins : List Insertion) (h : ℕ → Past) (g k : List Grant) (polls : L
   framed-turn : (now number : ℕ) (t : Turn) → Called
   framed-turn now number t =
       record {
-        answered = choose (eqb number 0) (settled (w .tunnel) now (t .out)) (refused (w .tunnel) number);
+        answered = choose (eqb number 0) (letThrough (w .tunnel) now (t .out)) (refused (w .tunnel) number);
         store = choose (eqb number 0) (t .store) (w .store);
       }
 
@@ -300,10 +300,10 @@ module _ (ins : List Insertion) (h : ℕ → Past) (g k : List Grant) (polls : L
 
     -- a waking that the checks let through
     abbrev let-through : Turn → Reply
-    let-through t = stored (record { answered = settled (w .tunnel) now (t .out); store = t .store })
+    let-through t = stored (record { answered = letThrough (w .tunnel) now (t .out); store = t .store })
 
     woke : Woke (let-through (handleTimeout (w .tunnel .control) (w .store) jitter now))
-    unfolding handleTimeout settled done caseAnswer
+    unfolding handleTimeout letThrough done caseAnswer
     woke =
         of-choice (λ (t : Turn). Woke (let-through t)) _ _ _ (record { waked = same-waked; plain = plain-of _ refl })
         (record { waked = woken (w .tunnel .control) (w .store) jitter now from-here; plain = plain-of _ refl })
@@ -353,7 +353,7 @@ module _ (ins : List Insertion) (h : ℕ → Past) (g k : List Grant) (polls : L
           → length ins + length (insertedBy message (framed-turn now number t .answered .answer)) < 2 ^ 64
           → Then (insertedBy message (framed-turn now number t .answered .answer)) (framed-turn now number t .answered .answer)
           (framed-turn now number t .answered .tunnel .control) (framed-turn now number t .store)
-      unfolding framed-turn choose settled refused numberOf
+      unfolding framed-turn choose letThrough refused numberOf
       of-inserted true number t e i few = rw e (of-inserts t (rw e at few) (i (eqb-true number 0 e)))
       of-inserted false number t e i few = rw e (next-quiet _ _ (none-inserted (No number) (eqb-false number 0 e)) (turned-down number))
 

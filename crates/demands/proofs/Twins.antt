@@ -31,7 +31,7 @@ use Rattle.sessions.specs.declared.session.Time.{Time}
 use Rattle.tunnel.proofs.Laws.{deadline-law, undamaged-law}
 use Rattle.tunnel.specs.Arguments.{openingOutcome, initiationOutcome, lacking, badOutcome, badJitter, badBatch}
 use Rattle.tunnel.specs.Damage.{undamaged}
-use Rattle.tunnel.specs.Tunnel.{gate, timelessGate, refused, settled, timed, timeless, kept, timedTurn, timedBatch, callStart, callRestart, callSend, callReceive, callLook, callInitiation, callResponse, callCookie, callTimeout, callEvent, callDeadline, callMissing}
+use Rattle.tunnel.specs.Tunnel.{gate, timelessGate, refused, letThrough, timed, timeless, kept, timedTurn, timedBatch, callStart, callRestart, callSend, callReceive, callLook, callInitiation, callResponse, callCookie, callTimeout, callEvent, callDeadline, callMissing}
 use Rattle.tunnel.specs.declared.tunnel.Answered.{Answered}
 use Rattle.tunnel.specs.declared.tunnel.Tunnel.{Tunnel}
 use Rattle.tunnel.specs.HandleTimeout.{handleTimeout}
@@ -89,9 +89,9 @@ module _ {latest : ℕ} where
     bounded true now time l b = b
     bounded false now time l b = h .bound time l b
 
-    settled-alike : (now : ℕ) (out : Out) → AnsweredAlike latest (settled p now out) (settled w now out)
-    unfolding settled
-    settled-alike now out =
+    let-through-alike : (now : ℕ) (out : Out) → AnsweredAlike latest (letThrough p now out) (letThrough w now out)
+    unfolding letThrough
+    let-through-alike now out =
         record {
           answer = refl;
           tunnels = record { control = refl; older = raised (out .raises) now; bound = bounded (out .raises) now };
@@ -111,7 +111,7 @@ module _ {latest : ℕ} where
         timed-alike : (is : Bool) (out shall : Out) → bad ≡ is → out ≡ shall → AnsweredAlike latest (timed p bad now out) (timed w is now shall)
         unfolding timed
         timed-alike is out shall b e =
-            rw (← b, ← e, same-gate) (of-same-test _ _ _ _ _ (settled-alike now out) (refused-alike (gate w bad now)))
+            rw (← b, ← e, same-gate) (of-same-test _ _ _ _ _ (let-through-alike now out) (refused-alike (gate w bad now)))
 
         kept-alike : (is : Bool) (came left had shall : List ℕ) → bad ≡ is → came ≡ had → left ≡ shall → kept p bad now came left ≡ kept w is now had shall
         unfolding kept
@@ -121,7 +121,7 @@ module _ {latest : ℕ} where
       timeless-alike : (bad is : Bool) (out shall : Out) → bad ≡ is → out ≡ shall → AnsweredAlike latest (timeless p bad out) (timeless w is shall)
       unfolding timeless timelessGate
       timeless-alike bad is out shall b e =
-          rw (← b, ← e, u, v) (of-same-test _ _ _ _ _ (settled-alike 0 out) (refused-alike _))
+          rw (← b, ← e, u, v) (of-same-test _ _ _ _ _ (let-through-alike 0 out) (refused-alike _))
 
 -- equal answers are alike
 equal-alike : (latest : ℕ) (a b : Answer) → a ≡ b → Alike latest a b
@@ -154,7 +154,7 @@ deadlines-alike c p w latest a b = by-queue (expiredControl c) (ringIsEmpty (c .
 
 -- the deadline leaves the tunnel as it was
 pub deadline-still : (t : Tunnel) → undamaged t ≡ true → callDeadline t .tunnel ≡ t
-unfolding callDeadline timeless timelessGate settled choose
+unfolding callDeadline timeless timelessGate letThrough choose
 deadline-still t u = rw u refl
 
 module _ {latest : ℕ} {p w : World} (h : Twins latest p w) (u : undamaged (p .tunnel) ≡ true) (v : undamaged (w .tunnel) ≡ true) where

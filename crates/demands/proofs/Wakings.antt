@@ -35,7 +35,7 @@ use Rattle.tunnel.proofs.Laws.{undamaged-law, gate-law}
 use Rattle.tunnel.specs.Arguments.{intervalOf, badJitter}
 use Rattle.tunnel.specs.Damage.{undamaged}
 use Rattle.tunnel.specs.Sound.{Sound}
-use Rattle.tunnel.specs.Tunnel.{newTunnel, gate, refused, settled, timed, kept, timedTurn, callTimeout}
+use Rattle.tunnel.specs.Tunnel.{newTunnel, gate, refused, letThrough, timed, kept, timedTurn, callTimeout}
 use Rattle.tunnel.specs.Quiet.{Early}
 use Rattle.tunnel.specs.HandleTimeout.{Inner, handleTimeout}
 
@@ -86,7 +86,7 @@ module _ {latest : ℕ} (p w : World) (h : Twins latest p w) (bad : Bool) (now :
       }
 
   left-twins : (w .tunnel .greatest ≤ now → Still (w .tunnel .control) (w .store) turn) → Twins latest p Left ⊎ Twins now p Left
-  unfolding timedTurn timed kept settled refused choose
+  unfolding timedTurn timed kept letThrough refused choose
   left-twins k = go (eqb (gate (w .tunnel) bad now) 0) refl
     where
       go : (t : Bool) → eqb (gate (w .tunnel) bad now) 0 ≡ t → Twins latest p Left ⊎ Twins now p Left

@@ -34,7 +34,7 @@ use Rattle.tunnel.specs.HandleHandshake.{establish, complete, handleHand
 use Rattle.tunnel.specs.HandleTimeout.{handleTimeout}
 use Rattle.tunnel.specs.Handshake.{receiveHandshakeResponse, receiveCookieReply}
 use Rattle.tunnel.specs.InitiateHandshake.{restartHandshake, startHandshake}
-use Rattle.tunnel.specs.Tunnel.{newTunnel, gate, refused, settled, Called, callNew, callEvent}
+use Rattle.tunnel.specs.Tunnel.{newTunnel, gate, refused, letThrough, Called, callNew, callEvent}
 use Rattle.tunnel.specs.declared.answer.Answer.the-variants.{Done, NoAnswer}
 use Rattle.tunnel.specs.declared.answer.Answer.{Answer}
 use Rattle.tunnel.specs.declared.control.Control.{Control}
@@ -187,7 +187,7 @@ module _ (c : Control) where
 
 -- the oldest event
 pub event-down : (t : Tunnel) → TurnedDown (callEvent t .answer) → callEvent t .tunnel ≡ t
-unfolding callEvent settled pollEvent refused numberOf
+unfolding callEvent letThrough pollEvent refused numberOf
 event-down t = of-timeless t false (λ (a : Answered). TurnedDown (a .answer) → a .tunnel ≡ t) _ (λ z d. absurd (d refl)) (λ z d. refl)
 
 -- what a check that lets a tunnel of eight slots and sixteen places through says of its control

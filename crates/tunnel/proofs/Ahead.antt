@@ -41,7 +41,7 @@ use Rattle.tunnel.specs.Handshake.{appendMac1AndMac2, initiateHandshake}
 use Rattle.tunnel.specs.InitiateHandshake.{initiating, initiate, restartHandshake, startHandshake}
 use Rattle.tunnel.specs.PollTimeout.{scheduledHandshake}
 use Rattle.tunnel.specs.RingBuffer.{Ring, queued, newest}
-use Rattle.tunnel.specs.Tunnel.{newTunnel, gate, refused, settled, timed, Called, timedTurn, callNew, callStart, callRestart, callInitiation, callTimeout}
+use Rattle.tunnel.specs.Tunnel.{newTunnel, gate, refused, letThrough, timed, Called, timedTurn, callNew, callStart, callRestart, callInitiation, callTimeout}
 use Rattle.tunnel.specs.declared.answer.Answer.the-variants.{NoAnswer, Initiation, Response}
 use Rattle.tunnel.specs.declared.control.Control.{Control}
 use Rattle.tunnel.specs.declared.control.Out.{Out}
@@ -96,7 +96,7 @@ sent-with t last now k = record { used = k .used; awaited = k .awaited }
 
 module _ (t : Tunnel) (now : ℕ) where
   timed-gives : (out : Out) → InitiatesOut (t .control) now out → Initiates t (timed t false now out) now
-  unfolding settled refused
+  unfolding letThrough refused
   timed-gives out k =
       of-timed t false now (λ (a : Answered). Initiates t a now) out
       (λ z. record { given = λ index e. (let g = k .given index e in (g .0, sent-with t _ now (g .1))); none = k .none })
@@ -146,7 +146,7 @@ module _ (t : Tunnel) (store : List ℕ) (peer outcome now : ℕ) where
 
   pub initiation-gives : length (t .control .sessions .slots) ≡ 8 → (index remote : ℕ) → came .answered .answer ≡ Response index remote
       → (index ≡ toldIndex t) × AnsweredWith t (came .answered .tunnel)
-  unfolding callInitiation timedTurn settled refused
+  unfolding callInitiation timedTurn letThrough refused
   initiation-gives eight =
       of-timed t (badOutcome (initiationOutcome outcome) store) now
       (λ (a : Answered). (index remote : ℕ) → a .answer ≡ Response index remote → (index ≡ toldIndex t) × AnsweredWith t (a .tunnel)) _
@@ -207,7 +207,7 @@ module _ (t : Tunnel) (store : List ℕ) (jitter now : ℕ) where
 
   pub waking-gives : length (t .control .events .slots) ≡ 16 → numberOf (woken .answer) ≡ 0 → HandshakeDue t now
       → (eventsOf (woken .tunnel) ≡ newest (eventsOf t ++ SendHandshakeInitiation (toldIndex t) ∷ [])) × SentWith t (woken .tunnel) now
-  unfolding callTimeout timedTurn settled scheduledHandshake
+  unfolding callTimeout timedTurn letThrough scheduledHandshake
   waking-gives long =
       of-timed t bad now
       (λ (a : Answered). numberOf (a .answer) ≡ 0 → HandshakeDue t now
@@ -236,7 +236,7 @@ module _ (t : Tunnel) (store : List ℕ) (jitter now : ℕ) where
   answers-nothing = of-choice (λ (turn : Turn). numberOf (turn .out .answer) ≡ 0) _ _ _ refl refl
 
   pub waking-unsent : (numberOf (woken .answer) ≡ 0 → HandshakeDue t now → ⊥) → lastIndex (woken .tunnel) ≡ lastIndex t
-  unfolding callTimeout timedTurn settled refused
+  unfolding callTimeout timedTurn letThrough refused
   waking-unsent =
       of-timed t bad now (λ (a : Answered). (numberOf (a .answer) ≡ 0 → HandshakeDue t now → ⊥) → lastIndex (a .tunnel) ≡ lastIndex t) _
       (λ z n. unsent-control (n answers-nothing))

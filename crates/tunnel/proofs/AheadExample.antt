@@ -26,10 +26,10 @@ use Rattle.tunnel.specs.InitiateHandshake.{initiating, initiate, restart
 use Rattle.tunnel.specs.PollTimeout.{scheduledHandshake}
 use Rattle.tunnel.specs.RingBuffer.{placeOf, emptyPlaces, newRing, storeAt, pushBack, eventsFrom, queued}
 use Rattle.tunnel.specs.Timers.{newTimers, tickLastHandshakeCompleted, tickLastHandshakeStarted, tickLastPacketReceived, tickLastPacketSent, getOr, scheduleHandshake, cancelScheduledHandshake, tickResponse, tickInitiation}
-use Rattle.tunnel.specs.Tunnel.{newTunnel, gate, refused, settled, timed, kept, timedTurn, callStart, callRestart, callInitiation, callTimeout}
+use Rattle.tunnel.specs.Tunnel.{newTunnel, gate, refused, letThrough, timed, kept, timedTurn, callStart, callRestart, callInitiation, callTimeout}
 
 pub computed : AheadExample
-unfolding choose noneOf zeros caseTime caseFound caseSelected slotHolds slotsHold wrappingIncrement selecting dueBy newSession emptySession emptySlots newSessions inSlotOf get put currentOf inCurrentSlot ahead nextIndex inserting insert select putSlot scheduledTunnel numberOf intervalOf initiationOutcome lacking badOutcome badJitter caseEvent caseState caseCompleted caseInterval newControl refuse done expiredControl queueing timeHolds stateHolds inRange intervalHolds bothAtMost eventHolds queueHolds eventsHold handshakeHolds packetTimersHold dataTimersHold fieldsHold timersHold storedHolds controlHolds undamaged responding respond handleHandshakeInitiation sendScheduled handleDue handleTimeout newHandshake isInProgress isExpired appendMac1AndMac2 initiateHandshake receiveHandshakeInitialization initiating initiate restartHandshake startHandshake scheduledHandshake placeOf emptyPlaces newRing storeAt pushBack eventsFrom queued newTimers tickLastHandshakeCompleted tickLastHandshakeStarted tickLastPacketReceived tickLastPacketSent getOr scheduleHandshake cancelScheduledHandshake tickResponse tickInitiation newTunnel gate refused settled timed kept timedTurn callStart callRestart callInitiation callTimeout
+unfolding choose noneOf zeros caseTime caseFound caseSelected slotHolds slotsHold wrappingIncrement selecting dueBy newSession emptySession emptySlots newSessions inSlotOf get put currentOf inCurrentSlot ahead nextIndex inserting insert select putSlot scheduledTunnel numberOf intervalOf initiationOutcome lacking badOutcome badJitter caseEvent caseState caseCompleted caseInterval newControl refuse done expiredControl queueing timeHolds stateHolds inRange intervalHolds bothAtMost eventHolds queueHolds eventsHold handshakeHolds packetTimersHold dataTimersHold fieldsHold timersHold storedHolds controlHolds undamaged responding respond handleHandshakeInitiation sendScheduled handleDue handleTimeout newHandshake isInProgress isExpired appendMac1AndMac2 initiateHandshake receiveHandshakeInitialization initiating initiate restartHandshake startHandshake scheduledHandshake placeOf emptyPlaces newRing storeAt pushBack eventsFrom queued newTimers tickLastHandshakeCompleted tickLastHandshakeStarted tickLastPacketReceived tickLastPacketSent getOr scheduleHandshake cancelScheduledHandshake tickResponse tickInitiation newTunnel gate refused letThrough timed kept timedTurn callStart callRestart callInitiation callTimeout
 computed =
     record {
       eight = refl;

@@ -25,7 +25,7 @@ use Rattle.sessions.specs.declared.sessions.Sessions.{Sessions}
 use Rattle.base.specs.Choice.{choose}
 use Rattle.tunnel.specs.declared.control.Out.{Out}
 use Rattle.tunnel.specs.Arguments.{intervalOf}
-use Rattle.tunnel.specs.Tunnel.{answered, newTunnel, settled}
+use Rattle.tunnel.specs.Tunnel.{answered, newTunnel, letThrough}
 use Rattle.tunnel.specs.declared.tunnel.Tunnel.{Tunnel}
 
 -- a creation
@@ -72,7 +72,7 @@ unfolding newTunnel
 chain-new-tunnel index keepalive now interval c p q = rw (q, p)
 
 -- a call that the checks let through
-pub chain-settled : (t : Tunnel) (now a b : ℕ) (out : Out) → a ≡ choose (out .updates) now (t .«last_update») → b ≡ choose (out .raises) now (t .greatest)
-    → answered (record { control = out .control; «last_update» = a; greatest = b }) (out .answer) ≡ settled t now out
-unfolding settled
-chain-settled t now a b out p q = rw (p, q)
+pub chain-let-through : (t : Tunnel) (now a b : ℕ) (out : Out) → a ≡ choose (out .updates) now (t .«last_update») → b ≡ choose (out .raises) now (t .greatest)
+    → answered (record { control = out .control; «last_update» = a; greatest = b }) (out .answer) ≡ letThrough t now out
+unfolding letThrough
+chain-let-through t now a b out p q = rw (p, q)

@@ -6,10 +6,10 @@ use Rattle.base.specs.Choice.{choose}
 use Rattle.tunnel.specs.PollTimeout.{pollTimeout}
 use Rattle.tunnel.specs.declared.answer.Answer.the-variants.{Deadline}
 use Rattle.tunnel.specs.Damage.{undamaged}
-use Rattle.tunnel.specs.Tunnel.{timelessGate, timeless, settled, callDeadline}
+use Rattle.tunnel.specs.Tunnel.{timelessGate, timeless, letThrough, callDeadline}
 use Rattle.tunnel.specs.declared.tunnel.Tunnel.{Tunnel}
 
 -- the answer of a deadline
 pub deadline-answer : (t : Tunnel) → undamaged t ≡ true → callDeadline t .answer ≡ Deadline (pollTimeout (t .control) (t .«last_update»))
-unfolding callDeadline timeless timelessGate settled choose
+unfolding callDeadline timeless timelessGate letThrough choose
 deadline-answer t p = rw p refl

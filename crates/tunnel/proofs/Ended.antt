@@ -36,7 +36,7 @@ use Rattle.tunnel.specs.HandleHandshake.{responding, respond, handleHand
 use Rattle.tunnel.specs.HandleTimeout.{clearAll, expireControl, scheduling, queueKeepalive, sendKeepalive, keepaliveIfDue, sendScheduled, handleTimeout}
 use Rattle.tunnel.specs.Handshake.{withStates, clearCookie, expireCookie, appendMac1AndMac2, initiateHandshake, receiveHandshakeInitialization, receiveHandshakeResponse, receiveCookieReply}
 use Rattle.tunnel.specs.InitiateHandshake.{initiating, initiate, restartHandshake, startHandshake}
-use Rattle.tunnel.specs.Tunnel.{newTunnel, gate, refused, settled, timed, timeless, Called, timedTurn, timedBatch, callNew, callStart, callRestart, callSend, callReceive, callLook, callInitiation, callResponse, callCookie, callTimeout, callEvent, callDeadline, callMissing}
+use Rattle.tunnel.specs.Tunnel.{newTunnel, gate, refused, letThrough, timed, timeless, Called, timedTurn, timedBatch, callNew, callStart, callRestart, callSend, callReceive, callLook, callInitiation, callResponse, callCookie, callTimeout, callEvent, callDeadline, callMissing}
 use Rattle.tunnel.specs.declared.control.Control.{Control}
 use Rattle.tunnel.specs.declared.control.Out.{Out}
 use Rattle.tunnel.specs.declared.encapsulate.Encrypted.{Encrypted}
@@ -241,12 +241,12 @@ new-ended index keepalive now e = refl
 -- the frames
 module _ (t : Tunnel) (h : NoneCurrent t) where
   timed-ended : (bad : Bool) (now : ℕ) (out : Out) → (bad ≡ false → EndedOut out) → NoneCurrent (timed t bad now out .tunnel)
-  unfolding timed settled refused
+  unfolding timed letThrough refused
   timed-ended bad now out o =
       known-choice (λ (a : Answered). NoneCurrent (a .tunnel)) (eqb (gate t bad now) 0) _ _ (λ e. o (gate-good t bad now (eqb-true _ 0 e))) (λ e. h)
 
   timeless-ended : (bad : Bool) (out : Out) → EndedOut out → NoneCurrent (timeless t bad out .tunnel)
-  unfolding timeless settled refused
+  unfolding timeless letThrough refused
   timeless-ended bad out o = of-choice (λ (a : Answered). NoneCurrent (a .tunnel)) _ _ _ o h
 
 -- each call

@@ -23,7 +23,7 @@ use Rattle.sessions.specs.declared.sessions.Found.the-variants.{Nothing, Got}
 use Rattle.sessions.specs.declared.sessions.Found.{Found}
 use Rattle.tunnel.proofs.AfterStates.{refuse-same}
 use Rattle.tunnel.proofs.Framed.{gate-good}
-use Rattle.tunnel.proofs.TurnedDown.{Untouched, settled-same, gate-beside, of-timed, of-turn, timed-up}
+use Rattle.tunnel.proofs.TurnedDown.{Untouched, let-through-same, gate-beside, of-timed, of-turn, timed-up}
 use Rattle.tunnel.specs.AfterStates.{TurnedDown, FoundTooFew, OfOutcome, withSendTicked, withDataMarked, withIndexUsed}
 use Rattle.tunnel.specs.Answer.{numberOf}
 use Rattle.tunnel.specs.Arguments.{initiationOutcome, badOutcome}
@@ -33,7 +33,7 @@ use Rattle.tunnel.specs.Encapsulate.{beginEncapsulate, finishEncapsulate
 use Rattle.tunnel.specs.HandleHandshake.{responding, respond, handleHandshakeInitiation}
 use Rattle.tunnel.specs.Handshake.{receiveHandshakeInitialization}
 use Rattle.tunnel.specs.Timers.{tickLastDataPacketSent, tickLastPacketSent}
-use Rattle.tunnel.specs.Tunnel.{gate, refused, settled, Called, timedTurn, callSend, callInitiation}
+use Rattle.tunnel.specs.Tunnel.{gate, refused, letThrough, Called, timedTurn, callSend, callInitiation}
 use Rattle.tunnel.specs.declared.answer.Answer.the-variants.{No, Response}
 use Rattle.tunnel.specs.declared.control.Control.{Control}
 use Rattle.tunnel.specs.declared.control.Out.{Out}
@@ -97,14 +97,14 @@ module _ (t : Tunnel) (count now : ℕ) where
   Finds a session = (numberOf (a .answer) ≡ 12) × (currentOf (t .control .sessions) ≡ Got session) × MaySend session now
 
   send-same : TurnedDown (callSend t count now .answer) → ((session : Session) → Finds (callSend t count now) session → ⊥) → callSend t count now .tunnel ≡ t
-  unfolding callSend settled refused
+  unfolding callSend letThrough refused
   send-same =
       of-timed t _ now (λ (a : Answered). TurnedDown (a .answer) → ((session : Session) → Finds a session → ⊥) → a .tunnel ≡ t) _
-      (λ z d k. settled-same t now _ (send-ways (t .control) count now .same d (λ x n p m. k x (n, p, m))))
+      (λ z d k. let-through-same t now _ (send-ways (t .control) count now .same d (λ x n p m. k x (n, p, m))))
       (λ z d k. refl)
 
   send-finds : (session : Session) → Finds (callSend t count now) session → callSend t count now .tunnel ≡ withDataMarked t session now
-  unfolding callSend settled refused numberOf choose
+  unfolding callSend letThrough refused numberOf choose
   send-finds session =
       of-timed t _ now (λ (a : Answered). Finds a session → a .tunnel ≡ withDataMarked t session now) _
       (λ z f. rw (send-ways (t .control) count now .marked session (f .0) (f .1) (f .2)) refl)
@@ -209,22 +209,22 @@ module _ (t : Tunnel) (store : List ℕ) (peer outcome now : ℕ) where
   incoming-up = timed-up t bad now (came .out) (λ z. passed z .up)
 
   pub incoming-store : TurnedDown (callInitiation t store peer outcome now .answered .answer) → callInitiation t store peer outcome now .store ≡ store
-  unfolding callInitiation settled
+  unfolding callInitiation letThrough
   incoming-store =
       of-turn t bad now (λ (a : Called). TurnedDown (a .answered .answer) → a .store ≡ store) store came (λ z d. passed z .words d) (λ z d. refl)
 
   pub incoming-down : TurnedDown (callInitiation t store peer outcome now .answered .answer)
       → (OfOutcome (numberOf (callInitiation t store peer outcome now .answered .answer)) → ⊥)
       → callInitiation t store peer outcome now .answered .tunnel ≡ t
-  unfolding callInitiation timedTurn settled refused
+  unfolding callInitiation timedTurn letThrough refused
   incoming-down =
       of-timed t bad now (λ (a : Answered). TurnedDown (a .answer) → (OfOutcome (numberOf (a .answer)) → ⊥) → a .tunnel ≡ t) (came .out)
-      (λ z d k. settled-same t now (came .out) (passed z .same d k))
+      (λ z d k. let-through-same t now (came .out) (passed z .same d k))
       (λ z d k. refl)
 
   pub incoming-failed : OfOutcome (numberOf (callInitiation t store peer outcome now .answered .answer))
       → callInitiation t store peer outcome now .answered .tunnel ≡ withIndexUsed t (nextIndex (t .control .sessions) .index)
-  unfolding callInitiation timedTurn settled refused numberOf choose nextIndex
+  unfolding callInitiation timedTurn letThrough refused numberOf choose nextIndex
   incoming-failed =
       of-timed t bad now (λ (a : Answered). OfOutcome (numberOf (a .answer)) → a .tunnel ≡ withIndexUsed t (nextIndex (t .control .sessions) .index)) (came .out)
       (λ z o. let u = passed z .failed o in rw (u .control, u .raises, u .updates) refl)

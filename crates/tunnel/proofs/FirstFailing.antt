@@ -13,7 +13,7 @@ use Rattle.tunnel.specs.Answer.{numberOf}
 use Rattle.tunnel.specs.Damage.{undamaged}
 use Rattle.tunnel.specs.Facts.{Undamaged}
 use Rattle.tunnel.specs.Numbers.{Just, Always, FirstFailing, Timely, Onward}
-use Rattle.tunnel.specs.Tunnel.{gate, timelessGate, refused, settled, timed, timeless}
+use Rattle.tunnel.specs.Tunnel.{gate, timelessGate, refused, letThrough, timed, timeless}
 use Rattle.tunnel.specs.declared.control.Out.{Out}
 use Rattle.tunnel.specs.declared.tunnel.Tunnel.{Tunnel}
 
@@ -100,10 +100,10 @@ its-undamaged t = record { to = undamaged-facts t; from = undamaged-holds t }
 -- the number that a frame answers
 pub timed-by : (late bad firm back : Bool) (t : Tunnel) (now : ℕ) (out : Out)
     → numberOf
-    (choose (eqb (choose late 1 (choose bad 2 (choose firm (choose back 13 0) 14))) 0) (settled t now out)
+    (choose (eqb (choose late 1 (choose bad 2 (choose firm (choose back 13 0) 14))) 0) (letThrough t now out)
     (refused t (choose late 1 (choose bad 2 (choose firm (choose back 13 0) 14)))) .answer)
     ≡ choose late 1 (choose bad 2 (choose firm (choose back 13 (numberOf (out .answer))) 14))
-unfolding choose settled refused numberOf
+unfolding choose letThrough refused numberOf
 timed-by true bad firm back t now out = refl
 timed-by false true firm back t now out = refl
 timed-by false false false back t now out = refl
@@ -111,9 +111,9 @@ timed-by false false true true t now out = refl
 timed-by false false true false t now out = refl
 
 pub timeless-by : (bad firm : Bool) (t : Tunnel) (out : Out)
-    → numberOf (choose (eqb (choose bad 2 (choose firm 0 14)) 0) (settled t 0 out) (refused t (choose bad 2 (choose firm 0 14))) .answer)
+    → numberOf (choose (eqb (choose bad 2 (choose firm 0 14)) 0) (letThrough t 0 out) (refused t (choose bad 2 (choose firm 0 14))) .answer)
     ≡ choose false 1 (choose bad 2 (choose firm (choose false 13 (numberOf (out .answer))) 14))
-unfolding choose settled refused numberOf
+unfolding choose letThrough refused numberOf
 timeless-by true firm t out = refl
 timeless-by false false t out = refl
 timeless-by false true t out = refl

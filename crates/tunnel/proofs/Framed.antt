@@ -26,7 +26,7 @@ use Rattle.sessions.specs.declared.session.Time.{Time}
 use Rattle.tunnel.proofs.Facts.{let-through}
 use Rattle.tunnel.specs.Arguments.{openingOutcome, initiationOutcome, lacking, badOutcome, badJitter, creationNumber}
 use Rattle.tunnel.specs.Damage.{undamaged}
-use Rattle.tunnel.specs.Tunnel.{answered, newTunnel, tested, testedTimeless, gate, timelessGate, refused, settled, timed, timeless, kept, timedTurn, timedBatch, callNew, callInitiation, callResponse, callCookie, callDeadline}
+use Rattle.tunnel.specs.Tunnel.{answered, newTunnel, tested, testedTimeless, gate, timelessGate, refused, letThrough, timed, timeless, kept, timedTurn, timedBatch, callNew, callInitiation, callResponse, callCookie, callDeadline}
 use Rattle.tunnel.specs.declared.tunnel.Answered.{Answered}
 use Rattle.tunnel.specs.declared.tunnel.Tunnel.{Tunnel}
 
@@ -113,28 +113,28 @@ module _ (t : Tunnel) (bad is sound : Bool) (now number : ℕ) (b : bad ≡ is) 
   unfolding timed
   way-refused out a z r = no-eq _ 0 a _ _ (λ e. z (same-gate ∙ e)) (r ∙ ap (refused t) same-gate)
 
-  pub way-settled : (out shall : Out) (a : Answered) → number ≡ 0 → out ≡ shall → a ≡ settled t now out → a ≡ timed t is now shall
+  pub way-let-through : (out shall : Out) (a : Answered) → number ≡ 0 → out ≡ shall → a ≡ letThrough t now out → a ≡ timed t is now shall
   unfolding timed
-  way-settled out shall a z o r = yes-eq _ 0 a _ _ (sym same-gate ∙ z) (r ∙ ap (settled t now) o)
+  way-let-through out shall a z o r = yes-eq _ 0 a _ _ (sym same-gate ∙ z) (r ∙ ap (letThrough t now) o)
 
   kept-refused : (came left : List ℕ) → (number ≡ 0 → ⊥) → came ≡ kept t is now came left
   unfolding kept
   kept-refused came left z = no-eq _ 0 came _ _ (λ e. z (same-gate ∙ e)) refl
 
-  kept-settled : (came left shall : List ℕ) → number ≡ 0 → left ≡ shall → left ≡ kept t is now came shall
+  kept-let-through : (came left shall : List ℕ) → number ≡ 0 → left ≡ shall → left ≡ kept t is now came shall
   unfolding kept
-  kept-settled came left shall z e = yes-eq _ 0 left _ _ (sym same-gate ∙ z) e
+  kept-let-through came left shall z e = yes-eq _ 0 left _ _ (sym same-gate ∙ z) e
 
   pub way-turn-refused : (store : List ℕ) (turn : Turn) (a : Answered) → (number ≡ 0 → ⊥) → a ≡ refused t number
       → Leaves a (timedTurn t is now store turn .answered) store (timedTurn t is now store turn .store)
   unfolding timedTurn
   way-turn-refused store turn a z r = record { out = way-refused (turn .out) a z r; words = kept-refused store (turn .store) z }
 
-  pub way-turn-settled : (store left : List ℕ) (turn : Turn) (out : Out) (a : Answered) → number ≡ 0 → Leaves out (turn .out) left (turn .store)
-      → a ≡ settled t now out → Leaves a (timedTurn t is now store turn .answered) left (timedTurn t is now store turn .store)
+  pub way-turn-let-through : (store left : List ℕ) (turn : Turn) (out : Out) (a : Answered) → number ≡ 0 → Leaves out (turn .out) left (turn .store)
+      → a ≡ letThrough t now out → Leaves a (timedTurn t is now store turn .answered) left (timedTurn t is now store turn .store)
   unfolding timedTurn
-  way-turn-settled store left turn out a z o r =
-      record { out = way-settled out (turn .out) a z (o .out) r; words = kept-settled store left (turn .store) z (o .words) }
+  way-turn-let-through store left turn out a z o r =
+      record { out = way-let-through out (turn .out) a z (o .out) r; words = kept-let-through store left (turn .store) z (o .words) }
 
   pub way-batch-refused : (store verdicts skips : List ℕ) (batch : Batched Out) (a : Answered) → (number ≡ 0 → ⊥) → a ≡ refused t number
       → LeavesBatch (timedBatch t is now store verdicts skips batch) a store verdicts skips
@@ -147,15 +147,15 @@ module _ (t : Tunnel) (bad is sound : Bool) (now number : ℕ) (b : bad ≡ is) 
         skip-list = kept-refused skips (batch .skips) z;
       }
 
-  pub way-batch-settled : (store verdicts skips left list passed : List ℕ) (batch : Batched Out) (out : Out) (a : Answered) → number ≡ 0
-      → LeavesBatch batch out left list passed → a ≡ settled t now out → LeavesBatch (timedBatch t is now store verdicts skips batch) a left list passed
+  pub way-batch-let-through : (store verdicts skips left list passed : List ℕ) (batch : Batched Out) (out : Out) (a : Answered) → number ≡ 0
+      → LeavesBatch batch out left list passed → a ≡ letThrough t now out → LeavesBatch (timedBatch t is now store verdicts skips batch) a left list passed
   unfolding timedBatch
-  way-batch-settled store verdicts skips left list passed batch out a z o r =
+  way-batch-let-through store verdicts skips left list passed batch out a z o r =
       record {
-        out = way-settled out (batch .out) a z (o .out) r;
-        words = kept-settled store left (batch .store) z (o .words);
-        list = kept-settled verdicts list (batch .verdicts) z (o .list);
-        skip-list = kept-settled skips passed (batch .skips) z (o .skip-list);
+        out = way-let-through out (batch .out) a z (o .out) r;
+        words = kept-let-through store left (batch .store) z (o .words);
+        list = kept-let-through verdicts list (batch .verdicts) z (o .list);
+        skip-list = kept-let-through skips passed (batch .skips) z (o .skip-list);
       }
 
 -- the frame of a call without a time
@@ -167,16 +167,16 @@ module _ (t : Tunnel) (bad is sound : Bool) (number : ℕ) (b : bad ≡ is) (n :
   unfolding timeless
   way-timeless-refused out a z r = no-eq _ 0 a _ _ (λ e. z (same-timeless ∙ e)) (r ∙ ap (refused t) same-timeless)
 
-  pub way-timeless-settled : (out shall : Out) (a : Answered) → number ≡ 0 → out ≡ shall → a ≡ settled t 0 out → a ≡ timeless t is shall
+  pub way-timeless-let-through : (out shall : Out) (a : Answered) → number ≡ 0 → out ≡ shall → a ≡ letThrough t 0 out → a ≡ timeless t is shall
   unfolding timeless
-  way-timeless-settled out shall a z o r = yes-eq _ 0 a _ _ (sym same-timeless ∙ z) (r ∙ ap (settled t 0) o)
+  way-timeless-let-through out shall a z o r = yes-eq _ 0 a _ _ (sym same-timeless ∙ z) (r ∙ ap (letThrough t 0) o)
 
 -- the deadline
 pub way-deadline : (t : Tunnel) (sound : Bool) (number : ℕ) (time : Time) → number ≡ testedTimeless false sound → sound ≡ undamaged t → number ≡ 0
     → time ≡ pollTimeout (t .control) (t .«last_update») → answered t (Deadline time) ≡ callDeadline t
-unfolding callDeadline settled choose
+unfolding callDeadline letThrough choose
 way-deadline t sound number time n s z e =
-    way-timeless-settled t false false sound number refl n s (outOf (t .control) (Deadline time) false false) _ _ z (rw e) refl
+    way-timeless-let-through t false false sound number refl n s (outOf (t .control) (Deadline time) false false) _ _ z (rw e) refl
 
 -- an outcome that the call has made of its argument
 module _ (t : Tunnel) (given now number : ℕ) (sound : Bool) (s : sound ≡ undamaged t) where
@@ -186,11 +186,11 @@ module _ (t : Tunnel) (given now number : ℕ) (sound : Bool) (s : sound ≡ und
     unfolding callInitiation
     way-initiation-refused a z r = rw (← f) (way-turn-refused t bad (badOutcome found store) sound now number b n s store _ a z r)
 
-    pub way-initiation-settled : (left : List ℕ) (out : Out) (a : Answered) → number ≡ 0
+    pub way-initiation-let-through : (left : List ℕ) (out : Out) (a : Answered) → number ≡ 0
         → Leaves out (handleHandshakeInitiation (t .control) store peer found now .out) left (handleHandshakeInitiation (t .control) store peer found now .store)
-        → a ≡ settled t now out → Leaves a (callInitiation t store peer given now .answered) left (callInitiation t store peer given now .store)
+        → a ≡ letThrough t now out → Leaves a (callInitiation t store peer given now .answered) left (callInitiation t store peer given now .store)
     unfolding callInitiation
-    way-initiation-settled left out a z o r = rw (← f) (way-turn-settled t bad (badOutcome found store) sound now number b n s store left _ out a z o r)
+    way-initiation-let-through left out a z o r = rw (← f) (way-turn-let-through t bad (badOutcome found store) sound now number b n s store left _ out a z o r)
 
   module _ (store : List ℕ) (receiver peer found : ℕ) (bad : Bool) (f : found ≡ openingOutcome given) (b : bad ≡ badOutcome found store) (n : number ≡ tested bad sound (t .greatest) now) where
     pub way-response-refused : (a : Answered) → (number ≡ 0 → ⊥) → a ≡ refused t number
@@ -198,22 +198,22 @@ module _ (t : Tunnel) (given now number : ℕ) (sound : Bool) (s : sound ≡ und
     unfolding callResponse
     way-response-refused a z r = rw (← f) (way-turn-refused t bad (badOutcome found store) sound now number b n s store _ a z r)
 
-    pub way-response-settled : (left : List ℕ) (out : Out) (a : Answered) → number ≡ 0
+    pub way-response-let-through : (left : List ℕ) (out : Out) (a : Answered) → number ≡ 0
         → Leaves out (handleHandshakeResponse (t .control) store receiver peer found now .out) left
         (handleHandshakeResponse (t .control) store receiver peer found now .store)
-        → a ≡ settled t now out → Leaves a (callResponse t store receiver peer given now .answered) left (callResponse t store receiver peer given now .store)
+        → a ≡ letThrough t now out → Leaves a (callResponse t store receiver peer given now .answered) left (callResponse t store receiver peer given now .store)
     unfolding callResponse
-    way-response-settled left out a z o r = rw (← f) (way-turn-settled t bad (badOutcome found store) sound now number b n s store left _ out a z o r)
+    way-response-let-through left out a z o r = rw (← f) (way-turn-let-through t bad (badOutcome found store) sound now number b n s store left _ out a z o r)
 
   module _ (receiver found : ℕ) (f : found ≡ openingOutcome given) (n : number ≡ tested (eqb found 2) sound (t .greatest) now) where
     pub way-cookie-refused : (a : Answered) → (number ≡ 0 → ⊥) → a ≡ refused t number → a ≡ callCookie t receiver given now
     unfolding callCookie
     way-cookie-refused a z r = rw (← f) (way-refused t (eqb found 2) (eqb found 2) sound now number refl n s _ a z r)
 
-    pub way-cookie-settled : (out : Out) (a : Answered) → number ≡ 0 → out ≡ handleCookieReply (t .control) receiver found now
-        → a ≡ settled t now out → a ≡ callCookie t receiver given now
+    pub way-cookie-let-through : (out : Out) (a : Answered) → number ≡ 0 → out ≡ handleCookieReply (t .control) receiver found now
+        → a ≡ letThrough t now out → a ≡ callCookie t receiver given now
     unfolding callCookie
-    way-cookie-settled out a z o r = rw (← f) (way-settled t (eqb found 2) (eqb found 2) sound now number refl n s out _ a z o r)
+    way-cookie-let-through out a z o r = rw (← f) (way-let-through t (eqb found 2) (eqb found 2) sound now number refl n s out _ a z o r)
 
 -- a jitter that the checks let through
 pub small-jitter : (jitter : ℕ) (store : List ℕ) (late : Bool) → ltb maxJitter jitter ≡ late → badJitter jitter store ≡ false → jitter ≤ maxJitter

@@ -26,7 +26,7 @@ use Rattle.tunnel.specs.declared.timers.Timers.{Timers}
 use Rattle.sessions.specs.declared.batch.Progress.{Progress}
 use Rattle.sessions.specs.declared.session.Session.{Session}
 use Rattle.sessions.specs.declared.sessions.Sessions.{Sessions}
-use Rattle.tunnel.specs.Tunnel.{refused, settled, timed, timeless}
+use Rattle.tunnel.specs.Tunnel.{refused, letThrough, timed, timeless}
 use Rattle.tunnel.specs.declared.tunnel.Answered.{Answered}
 use Rattle.tunnel.specs.declared.tunnel.Tunnel.{Tunnel}
 use Rattle.tunnel.proofs.Steps.{of-expire}
@@ -216,9 +216,9 @@ module _ (interval : Interval) (c : Control) (store : List ℕ) (jitter now : �
 -- the frames: what holds of the control before a call and of what its operation hands back holds of the control after it
 module _ (P : Control → Type 0) (t : Tunnel) (h : P (t .control)) where
   pub on-timed : (bad : Bool) (now : ℕ) (out : Out) → P (out .control) → P (timed t bad now out .tunnel .control)
-  unfolding timed settled refused
+  unfolding timed letThrough refused
   on-timed bad now out k = of-choice (λ (a : Answered). P (a .tunnel .control)) _ _ _ k h
 
   pub on-timeless : (bad : Bool) (out : Out) → P (out .control) → P (timeless t bad out .tunnel .control)
-  unfolding timeless settled refused
+  unfolding timeless letThrough refused
   on-timeless bad out k = of-choice (λ (a : Answered). P (a .tunnel .control)) _ _ _ k h

@@ -28,7 +28,7 @@ use Rattle.tunnel.proofs.Framed.{gate-onward, gate-now, gate-good, Good
 use Rattle.tunnel.specs.Arguments.{intervalOf, lacking, badOutcome, creationNumber}
 use Rattle.tunnel.specs.Facts.{Undamaged}
 use Rattle.tunnel.specs.Sound.{Sound}
-use Rattle.tunnel.specs.Tunnel.{newTunnel, gate, timelessGate, refused, settled, timed, timeless}
+use Rattle.tunnel.specs.Tunnel.{newTunnel, gate, timelessGate, refused, letThrough, timed, timeless}
 use Rattle.tunnel.specs.declared.tunnel.Answered.{Answered}
 use Rattle.tunnel.specs.declared.tunnel.Tunnel.{Tunnel}
 
@@ -51,18 +51,18 @@ ticks false false now last greatest e l m = l
 
 -- the frames
 module _ (t : Tunnel) (s : Sound t) where
-  settled-sound : (now : ℕ) (out : Out) → now ≤ timeLimit → t .greatest ≤ now → SoundOut out (t .greatest) now → Sound (settled t now out .tunnel)
-  unfolding settled
-  settled-sound now out l m o =
+  let-through-sound : (now : ℕ) (out : Out) → now ≤ timeLimit → t .greatest ≤ now → SoundOut out (t .greatest) now → Sound (letThrough t now out .tunnel)
+  unfolding letThrough
+  let-through-sound now out l m o =
       let f : Undamaged t = undamaged-facts t (s .holds) in
       tunnel-sound _
       (known-choice (λ (n : ℕ). n ≤ timeLimit) (out .raises) now (t .greatest) (λ e. l) (λ e. f .latest))
       (ticks (out .updates) (out .raises) now (t .«last_update») (t .greatest) (o .ticked) (f .updated) m)
       (known-choice (λ (n : ℕ). SoundControl (out .control) n) (out .raises) now (t .greatest) (o .raised) (o .still))
 
-  unsettled-sound : (out : Out) → SoundStill out (t .greatest) → Sound (settled t 0 out .tunnel)
-  unfolding settled choose
-  unsettled-sound out o =
+  still-through-sound : (out : Out) → SoundStill out (t .greatest) → Sound (letThrough t 0 out .tunnel)
+  unfolding letThrough choose
+  still-through-sound out o =
       let f : Undamaged t = undamaged-facts t (s .holds) in
       rw (o .unraised, o .unticked) (tunnel-sound _ (f .latest) (f .updated) (o .sound))
 
@@ -74,13 +74,13 @@ module _ (t : Tunnel) (s : Sound t) where
       (λ e.
       let z : gate t bad now ≡ 0 = eqb-true _ 0 e in
       let m : t .greatest ≤ now = gate-onward t bad now z in
-      settled-sound now out (gate-now t bad now z) m (o (gate-good t bad now z) m))
+      let-through-sound now out (gate-now t bad now z) m (o (gate-good t bad now z) m))
       (λ e. s)
 
   pub timeless-sound : (bad : Bool) (out : Out) → SoundStill out (t .greatest) → Sound (timeless t bad out .tunnel)
   unfolding timeless refused
   timeless-sound bad out o =
-      known-choice (λ (y : Answered). Sound (y .tunnel)) (eqb (timelessGate t bad) 0) _ _ (λ e. unsettled-sound out o) (λ e. s)
+      known-choice (λ (y : Answered). Sound (y .tunnel)) (eqb (timelessGate t bad) 0) _ _ (λ e. still-through-sound out o) (λ e. s)
 
 -- a store that comes with a good outcome
 pub good-store : (found : ℕ) (store : List ℕ) → badOutcome found store ≡ false → length store ≡ 1024

@@ -30,7 +30,7 @@ use Rattle.tunnel.specs.Handshake.{isInProgress, isExpired}
 use Rattle.tunnel.specs.InitiateHandshake.{restartHandshake, startHandshake}
 use Rattle.tunnel.specs.PollTimeout.{pollTimeout}
 use Rattle.tunnel.specs.RingBuffer.{Ring, queued, oldest}
-use Rattle.tunnel.specs.Tunnel.{gate, timelessGate, refused, settled, Called, callReceive, callTimeout, callEvent, callDeadline}
+use Rattle.tunnel.specs.Tunnel.{gate, timelessGate, refused, letThrough, Called, callReceive, callTimeout, callEvent, callDeadline}
 use Rattle.tunnel.specs.declared.answer.Answer.the-variants.{NoAnswer, Done, Polled, Deadline}
 use Rattle.tunnel.specs.declared.control.Control.{Control}
 use Rattle.tunnel.specs.declared.control.Out.{Out}
@@ -74,7 +74,7 @@ pub timeout-nothing : (t : Tunnel) (store : List ℕ) (jitter now : ℕ) → IsE
     → (callTimeout t store jitter now .answered .answer ≡ NoAnswer)
     × (callTimeout t store jitter now .answered .tunnel ≡ withGreatest t now)
     × (callTimeout t store jitter now .store ≡ store)
-unfolding callTimeout settled done choose
+unfolding callTimeout letThrough done choose
 timeout-nothing t store jitter now x =
     of-turn t (badJitter jitter store) now
     (λ (a : Called). numberOf (a .answered .answer) ≡ 0
@@ -115,7 +115,7 @@ pub empty-nothing : (t : Tunnel) (store : List ℕ) (index id now : ℕ) → num
     × (callReceive t store index id now [] [] [] [] .store ≡ store)
     × (callReceive t store index id now [] [] [] [] .verdicts ≡ [])
     × (callReceive t store index id now [] [] [] [] .skips ≡ [])
-unfolding callReceive settled done choose
+unfolding callReceive letThrough done choose
 empty-nothing t store index id now =
     of-batch t (badBatch store [] [] [] []) now
     (λ (a : Batched Answered).
@@ -130,7 +130,7 @@ empty-nothing t store index id now =
 
 -- the deadline of an expired tunnel
 pub deadline-nothing : (t : Tunnel) → IsExpired t → numberOf (callDeadline t .answer) ≡ 0 → callDeadline t .answer ≡ Deadline Never
-unfolding callDeadline settled
+unfolding callDeadline letThrough
 deadline-nothing t x =
     of-timeless t false (λ (a : Answered). numberOf (a .answer) ≡ 0 → a .answer ≡ Deadline Never) _
     (λ z e. ap Deadline (deadline-expired (t .control) (t .«last_update») x))
@@ -149,20 +149,20 @@ module _ (t : Tunnel) (long : length (t .control .events .slots) ≡ 16) where
 
   -- what the event call answers and takes
   pub event-answer : numberOf (callEvent t .answer) ≡ 0 → callEvent t .answer ≡ Polled (oldest (queued (t .control .events)))
-  unfolding callEvent settled pollEvent
+  unfolding callEvent letThrough pollEvent
   event-answer =
       of-timeless t false (λ (a : Answered). numberOf (a .answer) ≡ 0 → a .answer ≡ Polled (oldest (queued (t .control .events)))) _
       (λ z e. ap Polled (queue-of-newest .answered (t .control .events) (its-ring z)))
       (λ z e. absurd (z (rw (refused-number t (timelessGate t false)) at e)))
 
   pub event-queue : numberOf (callEvent t .answer) ≡ 0 → queued (callEvent t .tunnel .control .events) ≡ drop 1 (queued (t .control .events))
-  unfolding callEvent settled pollEvent
+  unfolding callEvent letThrough pollEvent
   event-queue =
       of-timeless t false (λ (a : Answered). numberOf (a .answer) ≡ 0 → queued (a .tunnel .control .events) ≡ drop 1 (queued (t .control .events))) _
       (λ z e. queue-of-newest .left (t .control .events) (its-ring z))
       (λ z e. absurd (z (rw (refused-number t (timelessGate t false)) at e)))
 
 pub event-rest : (t : Tunnel) → callEvent t .tunnel ≡ withControl t (withEvents (t .control) (callEvent t .tunnel .control .events))
-unfolding callEvent settled pollEvent refused choose
+unfolding callEvent letThrough pollEvent refused choose
 event-rest t =
     of-timeless t false (λ (a : Answered). a .tunnel ≡ withControl t (withEvents (t .control) (a .tunnel .control .events))) _ (λ z. refl) (λ z. refl)

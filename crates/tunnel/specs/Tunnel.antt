@@ -51,8 +51,8 @@ unfoldable pub refused : Tunnel → ℕ → Answered
 refused t number = answered t (No number)
 
 -- a call that the checks let through
-unfoldable pub settled : Tunnel → ℕ → Out → Answered
-settled t now out =
+unfoldable pub letThrough : Tunnel → ℕ → Out → Answered
+letThrough t now out =
     answered
     (record {
       control = out .control;
@@ -63,11 +63,11 @@ settled t now out =
 
 -- the frame of a call at a time
 unfoldable pub timed : Tunnel → Bool → ℕ → Out → Answered
-timed t bad now out = choose (eqb (gate t bad now) 0) (settled t now out) (refused t (gate t bad now))
+timed t bad now out = choose (eqb (gate t bad now) 0) (letThrough t now out) (refused t (gate t bad now))
 
 -- the frame of a call without a time
 unfoldable pub timeless : Tunnel → Bool → Out → Answered
-timeless t bad out = choose (eqb (timelessGate t bad) 0) (settled t 0 out) (refused t (timelessGate t bad))
+timeless t bad out = choose (eqb (timelessGate t bad) 0) (letThrough t 0 out) (refused t (timelessGate t bad))
 
 -- a list or store as a call at a time leaves it: as it came where the call is turned down by a check
 unfoldable pub kept : Tunnel → Bool → ℕ → (came left : List ℕ) → List ℕ

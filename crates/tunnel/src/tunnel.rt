@@ -16,7 +16,7 @@ ghost use mathlib.Core.Path.{_≡_};
 ghost use Rattle.base.specs.Choice.{choose};
 ghost use Rattle.sessions.specs.Batch.{LeavesBatch};
 ghost use Rattle.sessions.specs.Store.{Leaves};
-ghost use Rattle.tunnel.specs.Tunnel.{tested, testedTimeless, newTunnel, refused, settled, callNew, callStart, callRestart, callSend, callReceive, callLook, callInitiation, callResponse, callCookie, callTimeout, callEvent, callDeadline, callMissing};
+ghost use Rattle.tunnel.specs.Tunnel.{tested, testedTimeless, newTunnel, refused, letThrough, callNew, callStart, callRestart, callSend, callReceive, callLook, callInitiation, callResponse, callCookie, callTimeout, callEvent, callDeadline, callMissing};
 
 // The greatest time that a call may have.
 pub const TIME_LIMIT: u64 = 4_000_000_000_000_000_000;
@@ -95,8 +95,8 @@ impl Tunnel {
     }
 
     // A call that the checks let through.
-    fn settled(mut self, now: u64, out: Out) -> Answered
-        ensures { λ r. ⌜ r ≡ settled self now out ⌝ }
+    fn let_through(mut self, now: u64, out: Out) -> Answered
+        ensures { λ r. ⌜ r ≡ letThrough self now out ⌝ }
     {
         let control = out.control;
         let answer = out.answer;
@@ -134,7 +134,7 @@ impl Tunnel {
         if number != 0 {
             return self.refused(number);
         }
-        self.settled(now, self.control.initiate_handshake(now))
+        self.let_through(now, self.control.initiate_handshake(now))
     }
 
     // Starts a new handshake, replacing one in progress: answers its local index, or nothing where the tunnel is expired.
@@ -146,7 +146,7 @@ impl Tunnel {
         if number != 0 {
             return self.refused(number);
         }
-        self.settled(now, self.control.restart_handshake(now))
+        self.let_through(now, self.control.restart_handshake(now))
     }
 
     // Grants a range of counters.
@@ -158,7 +158,7 @@ impl Tunnel {
         if number != 0 {
             return self.refused(number);
         }
-        self.settled(now, self.control.send(count, now))
+        self.let_through(now, self.control.send(count, now))
     }
 
     // Commits a batch to the session with this local index and session id, and fills in the verdicts and the
@@ -184,7 +184,7 @@ impl Tunnel {
         }
         let out = self.control
             .commit_decapsulate(store, index, id, now, counters, kinds, verdicts, skips);
-        self.settled(now, out)
+        self.let_through(now, out)
     }
 
     // The early look at a data message.
@@ -197,7 +197,7 @@ impl Tunnel {
         if number != 0 {
             return self.refused(number);
         }
-        self.settled(
+        self.let_through(
             now,
             self.control.begin_decapsulate(store, index, counter, now),
         )
@@ -222,7 +222,7 @@ impl Tunnel {
         }
         let out = self.control
             .handle_handshake_initiation(store, peer, found, now);
-        self.settled(now, out)
+        self.let_through(now, out)
     }
 
     // Completes a handshake with a response: answers the peer's index and the keepalive's counter.
@@ -245,7 +245,7 @@ impl Tunnel {
         }
         let out = self.control
             .handle_handshake_response(store, receiver, peer, found, now);
-        self.settled(now, out)
+        self.let_through(now, out)
     }
 
     // Stores the cookie of a reply.
@@ -258,7 +258,7 @@ impl Tunnel {
         if number != 0 {
             return self.refused(number);
         }
-        self.settled(now, self.control.handle_cookie_reply(receiver, found, now))
+        self.let_through(now, self.control.handle_cookie_reply(receiver, found, now))
     }
 
     // Wakes the tunnel: advances its timers and queues due events.
@@ -272,7 +272,7 @@ impl Tunnel {
             return self.refused(number);
         }
         let out = self.control.handle_timeout(store, jitter, now);
-        self.settled(now, out)
+        self.let_through(now, out)
     }
 
     // Answers the oldest queued event.
@@ -284,7 +284,7 @@ impl Tunnel {
         if number != 0 {
             return self.refused(number);
         }
-        self.settled(0, self.control.poll_event())
+        self.let_through(0, self.control.poll_event())
     }
 
     // Answers the next deadline for waking the tunnel.
@@ -312,6 +312,6 @@ impl Tunnel {
         if number != 0 {
             return self.refused(number);
         }
-        self.settled(0, self.control.missing(store, index))
+        self.let_through(0, self.control.missing(store, index))
     }
 }

@@ -1,4 +1,4 @@
-use Rattle.tunnel.proofs.Framed.{way-cookie-refused, way-cookie-settled}
+use Rattle.tunnel.proofs.Framed.{way-cookie-refused, way-cookie-let-through}
 use borrow.Author.Needs.{needs}
 use Rattle.tunnel.proofs.tunnel.Tunnel.handle_cookie_reply.Statement.{statement}
 use Rattle.tunnel.proofs.tunnel.Tunnel.handle_cookie_reply.Tie as tie
@@ -21,11 +21,11 @@ returns c = search (way-cookie-refused, needs)
 handle-cookie-reply-requires : tie.Need-handle-cookie-reply-requires
 handle-cookie-reply-requires c κs = search needs
 
-settled-requires : tie.Need-settled-requires
-settled-requires c κs = search needs
+let-through-requires : tie.Need-let-through-requires
+let-through-requires c κs = search needs
 
 returns-2 : tie.Need-returns-2
-returns-2 c = search (way-cookie-settled, needs)
+returns-2 c = search (way-cookie-let-through, needs)
 
 pub handle-cookie-reply-spec : {M : Type 1} → statement M
 handle-cookie-reply-spec = tie.close (tie.spec opening-outcome-requires
@@ -34,5 +34,5 @@ handle-cookie-reply-spec = tie.close (tie.spec opening-outcome-requires
     refused-requires
     returns
     handle-cookie-reply-requires
-    settled-requires
+    let-through-requires
     returns-2)

@@ -1,4 +1,4 @@
-use Rattle.tunnel.proofs.Framed.{way-initiation-refused, way-initiation-settled}
+use Rattle.tunnel.proofs.Framed.{way-initiation-refused, way-initiation-let-through}
 use borrow.Author.Needs.{needs}
 use Rattle.tunnel.proofs.tunnel.Tunnel.handle_handshake_initiation.Statement.{statement}
 use Rattle.tunnel.proofs.tunnel.Tunnel.handle_handshake_initiation.Tie as tie
@@ -27,14 +27,14 @@ returns c = search (way-initiation-refused, needs)
 handle-handshake-initiation-requires : tie.Need-handle-handshake-initiation-requires
 handle-handshake-initiation-requires c κs = search needs
 
-settled-requires : tie.Need-settled-requires
-settled-requires c κs = search needs
+let-through-requires : tie.Need-let-through-requires
+let-through-requires c κs = search needs
 
 same-length-2 : tie.Need-same-length-2
 same-length-2 c = search needs
 
 returns-2 : tie.Need-returns-2
-returns-2 c = search (way-initiation-settled, needs)
+returns-2 c = search (way-initiation-let-through, needs)
 
 pub handle-handshake-initiation-spec : {M : Type 1} → statement M
 handle-handshake-initiation-spec = tie.close (tie.spec initiation-outcome-requires
@@ -45,6 +45,6 @@ handle-handshake-initiation-spec = tie.close (tie.spec initiation-outcome-requir
     same-length
     returns
     handle-handshake-initiation-requires
-    settled-requires
+    let-through-requires
     same-length-2
     returns-2)

@@ -1,4 +1,4 @@
-use Rattle.tunnel.proofs.Framed.{open-ring, way-response-refused, way-response-settled}
+use Rattle.tunnel.proofs.Framed.{open-ring, way-response-refused, way-response-let-through}
 use borrow.Author.Needs.{needs}
 use Rattle.tunnel.proofs.tunnel.Tunnel.handle_handshake_response.Statement.{statement}
 use Rattle.tunnel.proofs.tunnel.Tunnel.handle_handshake_response.Tie as tie
@@ -27,14 +27,14 @@ returns c = search (way-response-refused, needs)
 handle-handshake-response-requires : tie.Need-handle-handshake-response-requires
 handle-handshake-response-requires c κs = search (open-ring, needs)
 
-settled-requires : tie.Need-settled-requires
-settled-requires c κs = search needs
+let-through-requires : tie.Need-let-through-requires
+let-through-requires c κs = search needs
 
 same-length-2 : tie.Need-same-length-2
 same-length-2 c = search needs
 
 returns-2 : tie.Need-returns-2
-returns-2 c = search (way-response-settled, needs)
+returns-2 c = search (way-response-let-through, needs)
 
 pub handle-handshake-response-spec : {M : Type 1} → statement M
 handle-handshake-response-spec = tie.close (tie.spec opening-outcome-requires
@@ -45,6 +45,6 @@ handle-handshake-response-spec = tie.close (tie.spec opening-outcome-requires
     same-length
     returns
     handle-handshake-response-requires
-    settled-requires
+    let-through-requires
     same-length-2
     returns-2)

@@ -1,4 +1,4 @@
-use Rattle.tunnel.proofs.Framed.{open-within, open-now, open-jitter, way-turn-refused, way-turn-settled}
+use Rattle.tunnel.proofs.Framed.{open-within, open-now, open-jitter, way-turn-refused, way-turn-let-through}
 use Rattle.tunnel.specs.Tunnel.{callTimeout}
 use borrow.Author.Needs.{needs}
 use Rattle.tunnel.proofs.tunnel.Tunnel.handle_timeout.Statement.{statement}
@@ -26,15 +26,15 @@ returns c = search (way-turn-refused, needs)
 handle-timeout-requires : tie.Need-handle-timeout-requires
 handle-timeout-requires c κs = search (open-within, open-now, open-jitter, needs)
 
-settled-requires : tie.Need-settled-requires
-settled-requires c κs = search needs
+let-through-requires : tie.Need-let-through-requires
+let-through-requires c κs = search needs
 
 same-length-2 : tie.Need-same-length-2
 same-length-2 c = search needs
 
 returns-2 : tie.Need-returns-2
 unfolding callTimeout
-returns-2 c = search (way-turn-settled, needs)
+returns-2 c = search (way-turn-let-through, needs)
 
 pub handle-timeout-spec : {M : Type 1} → statement M
 handle-timeout-spec = tie.close (tie.spec bad-jitter-requires
@@ -44,6 +44,6 @@ handle-timeout-spec = tie.close (tie.spec bad-jitter-requires
     same-length
     returns
     handle-timeout-requires
-    settled-requires
+    let-through-requires
     same-length-2
     returns-2)

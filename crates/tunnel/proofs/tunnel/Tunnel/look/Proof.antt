@@ -1,4 +1,4 @@
-use Rattle.tunnel.proofs.Framed.{way-refused, way-settled}
+use Rattle.tunnel.proofs.Framed.{way-refused, way-let-through}
 use Rattle.tunnel.specs.Tunnel.{callLook}
 use borrow.Author.Needs.{needs}
 use Rattle.tunnel.proofs.tunnel.Tunnel.look.Statement.{statement}
@@ -23,12 +23,12 @@ returns c = search (way-refused, needs)
 begin-decapsulate-requires : tie.Need-begin-decapsulate-requires
 begin-decapsulate-requires c κs = search needs
 
-settled-requires : tie.Need-settled-requires
-settled-requires c κs = search needs
+let-through-requires : tie.Need-let-through-requires
+let-through-requires c κs = search needs
 
 returns-2 : tie.Need-returns-2
 unfolding callLook
-returns-2 c = search (way-settled, needs)
+returns-2 c = search (way-let-through, needs)
 
 pub look-spec : {M : Type 1} → statement M
 look-spec = tie.close (tie.spec lacks-requires
@@ -37,5 +37,5 @@ look-spec = tie.close (tie.spec lacks-requires
     refused-requires
     returns
     begin-decapsulate-requires
-    settled-requires
+    let-through-requires
     returns-2)

@@ -1,4 +1,4 @@
-use Rattle.tunnel.proofs.Framed.{way-timeless-refused, way-timeless-settled}
+use Rattle.tunnel.proofs.Framed.{way-timeless-refused, way-timeless-let-through}
 use Rattle.tunnel.specs.Tunnel.{callMissing}
 use borrow.Author.Needs.{needs}
 use Rattle.tunnel.proofs.tunnel.Tunnel.missing.Statement.{statement}
@@ -23,12 +23,12 @@ returns c = search (way-timeless-refused, needs)
 missing-requires : tie.Need-missing-requires
 missing-requires c κs = search needs
 
-settled-requires : tie.Need-settled-requires
-settled-requires c κs = search needs
+let-through-requires : tie.Need-let-through-requires
+let-through-requires c κs = search needs
 
 returns-2 : tie.Need-returns-2
 unfolding callMissing
-returns-2 c = search (way-timeless-settled, needs)
+returns-2 c = search (way-timeless-let-through, needs)
 
 pub missing-spec : {M : Type 1} → statement M
 missing-spec = tie.close (tie.spec lacks-requires
@@ -37,5 +37,5 @@ missing-spec = tie.close (tie.spec lacks-requires
     refused-requires
     returns
     missing-requires
-    settled-requires
+    let-through-requires
     returns-2)

@@ -1,4 +1,4 @@
-use Rattle.tunnel.proofs.Framed.{still-ring, way-timeless-refused, way-timeless-settled}
+use Rattle.tunnel.proofs.Framed.{still-ring, way-timeless-refused, way-timeless-let-through}
 use Rattle.tunnel.specs.Tunnel.{callEvent}
 use borrow.Author.Needs.{needs}
 use Rattle.tunnel.proofs.tunnel.Tunnel.poll_event.Statement.{statement}
@@ -20,12 +20,12 @@ returns c = search (way-timeless-refused, needs)
 poll-event-requires : tie.Need-poll-event-requires
 poll-event-requires c κs = search (still-ring, needs)
 
-settled-requires : tie.Need-settled-requires
-settled-requires c κs = search needs
+let-through-requires : tie.Need-let-through-requires
+let-through-requires c κs = search needs
 
 returns-2 : tie.Need-returns-2
 unfolding callEvent
-returns-2 c = search (way-timeless-settled, needs)
+returns-2 c = search (way-timeless-let-through, needs)
 
 pub poll-event-spec : {M : Type 1} → statement M
 poll-event-spec = tie.close (tie.spec undamaged-requires
@@ -33,5 +33,5 @@ poll-event-spec = tie.close (tie.spec undamaged-requires
     refused-requires
     returns
     poll-event-requires
-    settled-requires
+    let-through-requires
     returns-2)

@@ -1,4 +1,4 @@
-use Rattle.tunnel.proofs.Framed.{open-ring, way-batch-refused, way-batch-settled}
+use Rattle.tunnel.proofs.Framed.{open-ring, way-batch-refused, way-batch-let-through}
 use Rattle.tunnel.specs.Tunnel.{callReceive}
 use borrow.Author.Needs.{needs}
 use Rattle.tunnel.proofs.tunnel.Tunnel.receive.Statement.{statement}
@@ -32,8 +32,8 @@ returns c = search (way-batch-refused, needs)
 commit-decapsulate-requires : tie.Need-commit-decapsulate-requires
 commit-decapsulate-requires c κs = search (open-ring, needs)
 
-settled-requires : tie.Need-settled-requires
-settled-requires c κs = search needs
+let-through-requires : tie.Need-let-through-requires
+let-through-requires c κs = search needs
 
 same-length-4 : tie.Need-same-length-4
 same-length-4 c = search needs
@@ -50,7 +50,7 @@ returns-2 c =
     let committed = c .before .before .before .before .before .before .before in
     let gated = committed .before .before .before .before in
     search (
-      way-batch-settled,
+      way-batch-let-through,
       committed .commit-decapsulate .ensures,
       gated .if1 .left,
       gated .before .gate .ensures,
@@ -72,7 +72,7 @@ receive-spec =
     same-length-3
     returns
     commit-decapsulate-requires
-    settled-requires
+    let-through-requires
     same-length-4
     same-length-5
     same-length-6

@@ -1,4 +1,4 @@
-use Rattle.tunnel.proofs.Framed.{way-refused, way-settled}
+use Rattle.tunnel.proofs.Framed.{way-refused, way-let-through}
 use Rattle.tunnel.specs.Tunnel.{callRestart}
 use borrow.Author.Needs.{needs}
 use Rattle.tunnel.proofs.tunnel.Tunnel.restart_handshake.Statement.{statement}
@@ -20,12 +20,12 @@ returns c = search (way-refused, needs)
 restart-handshake-requires : tie.Need-restart-handshake-requires
 restart-handshake-requires c κs = search needs
 
-settled-requires : tie.Need-settled-requires
-settled-requires c κs = search needs
+let-through-requires : tie.Need-let-through-requires
+let-through-requires c κs = search needs
 
 returns-2 : tie.Need-returns-2
 unfolding callRestart
-returns-2 c = search (way-settled, needs)
+returns-2 c = search (way-let-through, needs)
 
 pub restart-handshake-spec : {M : Type 1} → statement M
 restart-handshake-spec = tie.close (tie.spec undamaged-requires
@@ -33,5 +33,5 @@ restart-handshake-spec = tie.close (tie.spec undamaged-requires
     refused-requires
     returns
     restart-handshake-requires
-    settled-requires
+    let-through-requires
     returns-2)
