@@ -1,6 +1,6 @@
 //! Answers each call of a script with the original tunnel, and adds document 01's checks 1, 2
-//! and 13, the greatest time and document 02's missing report, skips and last heard times; the next index is told, datagrams are read, headers
-//! written and a log kept beside it.
+//! and 13, the greatest time and document 02's missing report, skips and last heard times; it is settled by single wakings, the next index is told,
+//! datagrams are read, headers written and a log kept beside it.
 
 use std::fmt;
 use std::num::NonZeroUsize;
@@ -36,6 +36,8 @@ const TIME_LIMIT: u64 = 4_000_000_000_000_000_000;
 const MAX_KEEPALIVE: u64 = 65_535;
 /// The greatest number of messages in a batch.
 const MAX_BATCH: usize = 1_024;
+/// The wakings at one time after which a settling is taken to have no end.
+const MOST_WAKINGS: u64 = 16;
 
 /// The number that turns a call down.
 pub type Number = u8;
@@ -79,6 +81,7 @@ pub enum Answer {
         index: u32,
         tries: u8,
     },
+    Woke(u64),
     Skips(Vec<u64>),
     Type1 {
         sender: u32,
@@ -125,6 +128,7 @@ impl fmt::Display for Answer {
             Answer::At(time) => write!(f, "ok at {time}"),
             Answer::Missing(count) => write!(f, "ok missing {count}"),
             Answer::Ahead { index, tries } => write!(f, "ok ahead {index} {tries}"),
+            Answer::Woke(wakings) => write!(f, "ok woke {wakings}"),
             Answer::Type1 { sender } => write!(f, "ok type 1 {sender}"),
             Answer::Type2 { sender, receiver } => write!(f, "ok type 2 {sender} {receiver}"),
             Answer::Type3 { receiver } => write!(f, "ok type 3 {receiver}"),
@@ -341,6 +345,7 @@ impl Held {
                 time,
             } => self.look(index, counter, time),
             Call::Wake { jitter, time } => self.wake(jitter, time),
+            Call::Settle { jitter, time } => self.settle(jitter, time),
             Call::Event => Ok(self.event()),
             Call::Next => Ok(self.next()),
             Call::Missing { index } => self.missing(index),
@@ -514,6 +519,31 @@ impl Held {
 
     /// Wakes the tunnel; once expired, only the greatest time rises.
     fn wake(&mut self, jitter: u64, time: u64) -> Result<Answer, Number> {
+        let jitter = self.waking_checked(jitter, time)?;
+
+        self.wake_once(jitter, time);
+        self.greatest = time;
+
+        Ok(Answer::None)
+    }
+
+    /// Wakes the tunnel at one time while a waking is due and answers how often; where none is due, only the greatest time rises.
+    fn settle(&mut self, jitter: u64, time: u64) -> Result<Answer, Number> {
+        let jitter = self.waking_checked(jitter, time)?;
+        let mut wakings = 0;
+
+        while self.deadline().is_some_and(|at| at <= time) {
+            assert!(wakings < MOST_WAKINGS, "no end of wakings at {time}");
+            self.wake_once(jitter, time);
+            wakings += 1;
+        }
+        self.greatest = time;
+
+        Ok(Answer::Woke(wakings))
+    }
+
+    /// Makes the checks before a waking and gives its jitter as the original takes it.
+    fn waking_checked(&self, jitter: u64, time: u64) -> Result<Duration, Number> {
         within_limit(time)?;
         let jitter = Duration::from_nanos(jitter);
         if jitter > MAX_JITTER {
@@ -521,11 +551,18 @@ impl Held {
         }
         self.not_back(time)?;
 
+        Ok(jitter)
+    }
+
+    /// Wakes the original once.
+    fn wake_once(&mut self, jitter: Duration, time: u64) {
         rand::set_jitter(jitter);
         self.tunnel.handle_timeout(self.instant(time));
-        self.greatest = time;
+    }
 
-        Ok(Answer::None)
+    /// The next deadline, queued events disregarded; an expired tunnel has none.
+    fn deadline(&self) -> Option<u64> {
+        self.tunnel.deadline().map(|at| self.time(at))
     }
 
     /// Takes the oldest event.
@@ -742,6 +779,8 @@ pub struct View {
     pub expired: bool,
     pub has_events: bool,
     pub next: Option<u64>,
+    /// The next deadline, queued events disregarded; an expired tunnel has none.
+    pub deadline: Option<u64>,
     pub deadlines: Vec<u64>,
     pub sessions: Vec<ViewSession>,
     pub current: Option<u32>,
@@ -780,6 +819,7 @@ impl Held {
             expired: self.tunnel.is_expired(),
             has_events: self.tunnel.has_events(),
             next: self.tunnel.poll_timeout().map(|at| self.time(at)),
+            deadline: self.deadline(),
             deadlines: self
                 .tunnel
                 .deadlines()

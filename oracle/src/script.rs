@@ -70,6 +70,10 @@ pub enum Call {
         jitter: u64,
         time: u64,
     },
+    Settle {
+        jitter: u64,
+        time: u64,
+    },
     Event,
     Next,
     Missing {
@@ -175,6 +179,10 @@ fn read_call(words: &mut Words<'_>) -> Option<Call> {
             time: words.number_64()?,
         },
         b"wake" => Call::Wake {
+            jitter: words.number_64()?,
+            time: words.number_64()?,
+        },
+        b"settle" => Call::Settle {
             jitter: words.number_64()?,
             time: words.number_64()?,
         },

@@ -74,7 +74,7 @@ pub fn speed(input: &[u8]) -> Option<String> {
     let mut run = match case {
         b'h' => Run::started(0),
         b's' => Run::established(0),
-        b'k' => Run::established(1),
+        b'k' | b'u' => Run::established(1),
         b'f' => Run::filled(),
         b'r' | b'm' | b'q' => Run::established(25),
         _ => Run::carrying(),
@@ -89,6 +89,8 @@ pub fn speed(input: &[u8]) -> Option<String> {
         b'm' => run.rounds(pattern, turns),
         b'l' => run.looks(turns),
         b'i' => run.wakes(TICK, turns),
+        b't' => run.settles(TICK, turns),
+        b'u' => run.settles(Duration::from_secs(1), turns),
         b'd' | b'f' => run.deadlines(turns),
         _ => run.events(turns),
     }
@@ -282,6 +284,30 @@ impl Run {
             self.now += step;
             black_box(&mut self.tunnel).handle_timeout(self.now);
         }
+    }
+
+    /// Settlings at times that are a step apart: wakings while the deadline has come. Each event is taken, since the deadline has
+    /// passed while one is queued.
+    fn settles(&mut self, step: Duration, turns: usize) {
+        for _ in 0..turns {
+            self.now += step;
+            while self.is_due() {
+                black_box(&mut self.tunnel).handle_timeout(self.now);
+                self.drain();
+            }
+        }
+    }
+
+    /// Whether the deadline has come.
+    fn is_due(&self) -> bool {
+        let deadline = black_box(&self.tunnel).poll_timeout();
+
+        deadline.is_some_and(|at| at <= self.now)
+    }
+
+    /// Takes every queued event.
+    fn drain(&mut self) {
+        while black_box(black_box(&mut self.tunnel).poll_event()).is_some() {}
     }
 
     /// Deadlines.

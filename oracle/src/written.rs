@@ -1,4 +1,4 @@
-//! A call's time, whether it may allocate an index, and its line as a script has it; reports and bytes as lines have them.
+//! A call's time, whether it may allocate the index told ahead, and its line as a script has it; reports and bytes as lines have them.
 
 use std::fmt;
 
@@ -20,7 +20,7 @@ impl Call {
         self
     }
 
-    /// Whether the call may allocate a local index.
+    /// Whether the call may allocate the local index that is told just before it; settling may drop the current session first.
     pub fn may_allocate(&self) -> bool {
         matches!(
             self,
@@ -40,7 +40,8 @@ impl Call {
             | Call::Send { time, .. }
             | Call::Recv { time, .. }
             | Call::Look { time, .. }
-            | Call::Wake { time, .. } => Some(time),
+            | Call::Wake { time, .. }
+            | Call::Settle { time, .. } => Some(time),
             Call::Event
             | Call::Next
             | Call::Missing { .. }
@@ -104,6 +105,7 @@ impl fmt::Display for Call {
                 time,
             } => write!(f, "look {index} {counter} {time}"),
             Call::Wake { jitter, time } => write!(f, "wake {jitter} {time}"),
+            Call::Settle { jitter, time } => write!(f, "settle {jitter} {time}"),
             Call::Event => write!(f, "event"),
             Call::Next => write!(f, "next"),
             Call::Missing { index } => write!(f, "missing {index}"),

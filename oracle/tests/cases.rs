@@ -40,7 +40,7 @@ fn every_case_has_the_answers_beside_it() {
         count += 1;
     }
 
-    assert!(count >= 19);
+    assert!(count >= 20);
 }
 
 #[test]

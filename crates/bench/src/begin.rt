@@ -43,6 +43,7 @@ pub fn weight(answer: Answer) -> u64 {
         Answer::Polled(event) => event_weight(event),
         Answer::Deadline(time) => time_weight(time),
         Answer::Report(count) => count,
+        Answer::Woke(wakings) => wakings as u64,
     }
 }
 
@@ -104,7 +105,7 @@ pub fn begun(case: u8, store: &mut [u64]) -> Tunnel {
     match case {
         b's' => established(store, 0),
         b'r' | b'm' | b'q' => established(store, 25),
-        b'k' => established(store, 1),
+        b'k' | b'u' => established(store, 1),
         b'f' => filled(store),
         b'h' => started(store, 0),
         _ => carrying(store),

@@ -15,11 +15,13 @@ use crate::datagrams::datagrams;
 use crate::day::rounds;
 use crate::logs::logs;
 use crate::turns::deadlines;
+use crate::turns::drained;
 use crate::turns::events;
 use crate::turns::looks;
 use crate::turns::receives;
 use crate::turns::reports;
 use crate::turns::sends;
+use crate::turns::settles;
 use crate::turns::wakes;
 use libc::STDIN_FILENO;
 use libc::STDOUT_FILENO;
@@ -132,10 +134,10 @@ fn cut(
     )
 }
 
-// The time from one waking to the next.
+// The time from one waking or settling to the next.
 fn step_of(case: u8) -> u64 {
     match case {
-        b'k' => 1_000_000_000,
+        b'k' | b'u' => 1_000_000_000,
         b'h' => 5_000_000_000,
         _ => 1,
     }
@@ -156,6 +158,7 @@ fn run(
         b's' => sends(tunnel, asked.turns),
         b'r' | b'm' | b'q' => cut(tunnel, store, counters, kinds, verdicts, skips, asked),
         b'k' | b'h' | b'i' => wakes(tunnel, store, step_of(case), asked.turns),
+        b't' | b'u' => drained(settles(tunnel, store, step_of(case), asked.turns)),
         b'l' => looks(tunnel, store, asked.turns),
         b'd' | b'f' => deadlines(tunnel, asked.turns),
         _ => events(tunnel, asked.turns),

@@ -100,6 +100,30 @@ pub fn wakes(mut tunnel: Tunnel, store: &mut [u64], step: u64, turns: usize) -> 
     tunnel
 }
 
+// Settlings at times that are a step apart.
+pub fn settles(mut tunnel: Tunnel, store: &mut [u64], step: u64, turns: usize) -> Tunnel {
+    let mut now = step;
+    let mut i = 0;
+    while i < turns {
+        let settling = tunnel.settle(store, 0, now);
+        tunnel = settling.tunnel;
+        now = std::num::wrapping_add_u64(now, step);
+        i = i + 1;
+    }
+    tunnel
+}
+
+// The tunnel without its queued events, of which there are sixteen at most.
+pub fn drained(mut tunnel: Tunnel) -> Tunnel {
+    let mut i = 0u64;
+    while i < 16 {
+        let event = tunnel.poll_event();
+        tunnel = event.tunnel;
+        i = i + 1;
+    }
+    tunnel
+}
+
 // Deadlines.
 pub fn deadlines(mut tunnel: Tunnel, turns: usize) -> Tunnel {
     let mut sum = 0;

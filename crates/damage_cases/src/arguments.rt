@@ -10,6 +10,7 @@ use crate::judge::ANSWERED;
 use crate::request::MOST;
 use crate::request::RECEIVE;
 use crate::request::SEND;
+use crate::request::SETTLING;
 use crate::request::START;
 use crate::request::WAKING;
 use crate::request::good;
@@ -127,20 +128,26 @@ fn count_case(count: u64, expected: u64) -> Tally {
     one(no_damage(), request, expected)
 }
 
-// A waking with a jitter.
-fn jitter_case(jitter: u64, expected: u64) -> Tally {
-    let mut request = good(WAKING, GREATEST);
+// A call with a jitter.
+fn jitter_case(call: u64, jitter: u64, expected: u64) -> Tally {
+    let mut request = good(call, GREATEST);
     request.jitter = jitter;
     one(no_damage(), request, expected)
+}
+
+// The jitters of a call at the edges.
+fn jitters(call: u64) -> Tally {
+    jitter_case(call, 333_000_000, ANSWERED)
+        .plus(jitter_case(call, 333_000_001, 2))
+        .plus(jitter_case(call, MOST, 2))
 }
 
 // The counts and jitters at the edges.
 fn numbers() -> Tally {
     count_case(0, 2)
         .plus(count_case(1, ANSWERED))
-        .plus(jitter_case(333_000_000, ANSWERED))
-        .plus(jitter_case(333_000_001, 2))
-        .plus(jitter_case(MOST, 2))
+        .plus(jitters(WAKING))
+        .plus(jitters(SETTLING))
 }
 
 // Writes the groups of numbers 1 and 2.

@@ -8,6 +8,7 @@ use crate::request::RESPONSE;
 use crate::request::RESTART;
 use crate::request::Request;
 use crate::request::SEND;
+use crate::request::SETTLING;
 use crate::request::START;
 use crate::request::WAKING;
 use tunnel::tunnel::Answered;
@@ -47,6 +48,9 @@ fn ask_store(tunnel: Tunnel, r: Request, store: &mut [u64]) -> Answered {
     }
     if r.call == WAKING {
         return tunnel.handle_timeout(store, r.jitter, r.now);
+    }
+    if r.call == SETTLING {
+        return tunnel.settle(store, r.jitter, r.now);
     }
     tunnel.missing(store, r.index)
 }

@@ -3,6 +3,7 @@ use crate::damage::Damage;
 use crate::judge::ANSWERED;
 use crate::judge::NO_ANSWER;
 use crate::judge::NO_DEADLINE;
+use crate::judge::NO_WAKING;
 use crate::judge::right;
 use crate::request::CALLS;
 use crate::request::INITIATION;
@@ -93,6 +94,7 @@ fn expired_gives(call: u64, report: u64) -> u64 {
         4 => ANSWERED,
         5 => NO_DEADLINE,
         11 => report,
+        12 => NO_WAKING,
         _ => 11,
     }
 }

@@ -15,11 +15,14 @@ pub const NO_ANSWER: u64 = 20;
 // No deadline is expected and nothing changed.
 pub const NO_DEADLINE: u64 = 21;
 
+// No waking is expected of a settling and only the greatest time raised.
+pub const NO_WAKING: u64 = 22;
+
 // Any answer is expected.
-pub const ANSWERED: u64 = 22;
+pub const ANSWERED: u64 = 23;
 
 // Any answer is expected, or any number but 14.
-pub const NOT_14: u64 = 23;
+pub const NOT_14: u64 = 24;
 
 // The verdict that stands in the list before a call.
 const UNJUDGED: u8 = 200;
@@ -88,6 +91,14 @@ fn deadline_code(deadline: Time) -> u64 {
     }
 }
 
+// What a settling's number of wakings stands for among the expectations.
+fn wakings_code(wakings: u8) -> u64 {
+    if wakings == 0 {
+        return NO_WAKING;
+    }
+    ANSWERED
+}
+
 // What an answer stands for among the expectations.
 fn answer_code(answer: Answer) -> u64 {
     match answer {
@@ -101,6 +112,7 @@ fn answer_code(answer: Answer) -> u64 {
         Answer::Polled(_) => ANSWERED,
         Answer::Deadline(deadline) => deadline_code(deadline),
         Answer::Report(_) => ANSWERED,
+        Answer::Woke(wakings) => wakings_code(wakings),
     }
 }
 
@@ -113,8 +125,8 @@ pub fn code_of(answered: Answered) -> u64 {
 // Whether an answer is one that is expected.
 fn fits(code: u64, expected: u64) -> bool {
     match expected {
-        23 => code != 14,
-        22 => code > 14,
+        24 => code != 14,
+        23 => code > 14,
         _ => code == expected,
     }
 }
@@ -130,10 +142,18 @@ fn uses_index(request: Request, expected: u64) -> bool {
     expected == request.outcome
 }
 
-// The tunnel that must come back from a call of which this is expected: as it came, save that `NoAnswer` raises the greatest time
-// and that an initiation turned down by its outcome has used up its local index.
+// Whether a call of which this is expected raises the greatest time and changes nothing else.
+fn only_raises(expected: u64) -> bool {
+    match expected {
+        20 | 22 => true,
+        _ => false,
+    }
+}
+
+// The tunnel that must come back from a call of which this is expected: as it came, save that `NoAnswer` and a settling without a
+// waking raise the greatest time and that an initiation turned down by its outcome has used up its local index.
 fn left_by(mut tunnel: Tunnel, request: Request, expected: u64) -> Tunnel {
-    if expected == NO_ANSWER {
+    if only_raises(expected) {
         tunnel.greatest = request.now;
         return tunnel;
     }

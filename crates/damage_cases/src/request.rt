@@ -1,6 +1,6 @@
 // A call with its arguments.
 
-// The twelve calls that take a tunnel, first those without the store: `initiate_handshake`.
+// The thirteen calls that take a tunnel, first those without the store: `initiate_handshake`.
 pub const START: u64 = 0;
 
 // `restart_handshake`.
@@ -36,8 +36,11 @@ pub const WAKING: u64 = 10;
 // `missing`.
 pub const MISSING: u64 = 11;
 
+// `settle`.
+pub const SETTLING: u64 = 12;
+
 // How many calls there are.
-pub const CALLS: u64 = 12;
+pub const CALLS: u64 = 13;
 
 // The greatest number of 64 bits.
 pub const MOST: u64 = 18446744073709551615;

@@ -10,7 +10,7 @@ use lib.Dec.{ltb, leb, eqb}
 use borrow.Author.Tests.{ltb-true, leb-true, eqb-true}
 use Rattle.base.specs.Choice.{choose}
 use Rattle.tunnel.specs.Answer.{numberOf}
-use Rattle.tunnel.specs.declared.answer.Answer.the-variants.{No, Done, NoAnswer, Initiation, Response, Keepalive, Granted, Polled, Deadline, Report}
+use Rattle.tunnel.specs.declared.answer.Answer.the-variants.{No, Done, NoAnswer, Initiation, Response, Keepalive, Granted, Polled, Deadline, Report, Woke}
 use Rattle.tunnel.specs.declared.answer.Answer.{Answer}
 use Rattle.demands.specs.Calls.Call.{send, timeout, deadline}
 use Rattle.demands.specs.Calls.{Call, World, step, after, Expired}
@@ -51,6 +51,7 @@ isAbove now (Granted granted) = false
 isAbove now (Polled event) = false
 isAbove now (Deadline time) = caseTime time false (λ due. ltb now due)
 isAbove now (Report count) = false
+isAbove now (Woke wakings) = false
 
 never-true : false ≡ true → ⊥
 never-true e = let z : _≡_ {A = ℕ} 0 1 = cc in omega arith
@@ -68,6 +69,7 @@ of-above now (Polled event) e = absurd (never-true e)
 of-above now (Deadline Never) e = absurd (never-true e)
 of-above now (Deadline (At due)) e = (due, refl, ltb-true now due e)
 of-above now (Report count) e = absurd (never-true e)
+of-above now (Woke wakings) e = absurd (never-true e)
 
 -- whether a tunnel is expired
 unfoldable pub testExpired : World → Bool

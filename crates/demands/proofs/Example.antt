@@ -46,6 +46,7 @@ use Rattle.tunnel.specs.Arguments as arguments
 use Rattle.tunnel.specs.Damage.{undamaged}
 use Rattle.tunnel.specs.Tunnel as tunnel
 use Rattle.tunnel.specs.HandleTimeout as handleTimeout
+use Rattle.tunnel.specs.Settle as settling
 use Rattle.window.specs.Window as window
 
 -- the kinds of the batch are among the three
@@ -59,7 +60,7 @@ known-kinds (suc (suc (suc (suc zero)))) l = omega arith
 known-kinds (suc (suc (suc (suc (suc i))))) l = absurd (omega arith)
 
 pub example-law : ExampleLaw
-unfolding laws.commits lastHeard.hearing lastHeard.heardFrom count.onesIn count.ones bits.bit choice.choose sums.sum window.bitAt window.checkBit window.setBit window.clearBit window.clears window.advance window.isInvalid window.willAccept window.nextAfter window.wordsAfter window.skippedBy window.markDidReceive index.wrappingIncrement store.slotWords store.putSlot lists.zeros lists.onesOf store.missingOf sessionsCases.caseTime sessionsCases.caseRole sessionsCases.caseReserved session.dueBy session.least session.earlier session.newSession session.emptySession session.rekeyAfterTimeOnSend session.rejectAfterTimeOnReceive session.expiresAt session.expiredAt session.shouldUseAt session.rekeyAfterMessagesReached session.sendingCounterExhausted session.preparePacketData session.reserveCounters session.willReceive sessionsCases.caseFound sessionsCases.caseSelected sessionsCases.caseMissing sessions.emptySlots sessions.newSessions sessions.inSlotOf sessions.get sessions.put sessions.currentOf sessions.inCurrentSlot sessions.ahead sessions.nextIndex sessions.inserting sessions.insert sessions.usable sessions.sendingSession sessions.isIndex sessions.select sessions.setCurrent sessions.clear sessions.emptied sessions.expiredSlot sessions.discard sessions.expireSlot sessions.expireFirst sessions.expire first.noneOf sessions.slotExpiry sessions.firstExpiry sessions.missing sessionsCases.caseReceived batch.known batch.fits batch.finishReceivePacketData batch.finishAll batch.receivingSession batch.receive history.verdictOn history.recorded history.recordedAll history.verdictsOn damage.timeHolds damage.stateHolds damage.inRange damage.intervalHolds damage.bothAtMost damage.eventHolds sessionsDamage.slotHolds sessionsDamage.slotsHold damage.queueHolds damage.eventsHold damage.handshakeHolds damage.packetTimersHold damage.dataTimersHold damage.fieldsHold damage.timersHold tunnelCases.caseEvent tunnelCases.caseState tunnelCases.caseCompleted tunnelCases.caseCookie handshake.newHandshake handshake.awaits handshake.isInProgress handshake.inFlightInitiation handshake.setExpired handshake.isExpired handshake.cookieExpiration handshake.clearCookie handshake.expireCookie handshake.appendMac1AndMac2 handshake.initiateHandshake handshake.receiveHandshakeInitialization handshake.expects handshake.receiveHandshakeResponse handshake.receiveCookieReply ringBuffer.placeOf ringBuffer.emptyPlaces ringBuffer.newRing ringBuffer.ringIsEmpty ringBuffer.storeAt ringBuffer.pushBack ringBuffer.popFront ringBuffer.eventsFrom ringBuffer.queued ringBuffer.newest ringBuffer.oldest tunnelCases.caseInterval timers.newTimers timers.rejectAfterTimeOf timers.rekeyAttemptDeadline timers.rekeyAfterTimeWithoutResponse timers.keepaliveAfterTimeWithoutSend timers.nextPersistentKeepalive timers.clearTimers timers.tickLastHandshakeCompleted timers.tickLastHandshakeStarted timers.tickLastPacketReceived timers.tickLastPacketSent timers.tickLastDataPacketReceived timers.getOr timers.tickLastDataPacketSent timers.tickPersistentKeepalive timers.rekeyTimeoutOf timers.scheduleHandshake timers.cancelScheduledHandshake timers.consumePassiveKeepalive timers.tickAccepted timers.tickResponse timers.tickCompleted timers.tickInitiation answer.numberOf answer.eventWord answer.eventValues answer.timeWord answer.timeValues answer.answerWord answer.valuesOf arguments.intervalOf arguments.openingOutcome arguments.initiationOutcome arguments.lacking arguments.badOutcome arguments.badJitter arguments.badBatch arguments.creationNumber damage.storedHolds damage.controlHolds undamaged control.newControl control.refuse control.done control.expiredControl control.queueing control.pollEvent control.missingReport handleHandshake.responding handleHandshake.respond handleHandshake.handleHandshakeInitiation handleHandshake.confirming handleHandshake.establish handleHandshake.complete handleHandshake.handleHandshakeResponse handleHandshake.handleCookieReply initiateHandshake.initiating initiateHandshake.initiate initiateHandshake.restartHandshake initiateHandshake.startHandshake tunnelCases.caseDatagram encapsulate.beginEncapsulate encapsulate.finishEncapsulate encapsulate.grant encapsulate.send encapsulate.encryptKeepalive decapsulate.confirmFirstSession decapsulate.accept decapsulate.commitDecapsulate decapsulate.beginDecapsulate tunnel.newTunnel tunnel.gate tunnel.timelessGate tunnel.refused tunnel.letThrough tunnel.timed tunnel.timeless tunnel.kept tunnel.timedTurn tunnel.timedBatch tunnel.callNew tunnel.callStart tunnel.callRestart tunnel.callSend tunnel.callReceive tunnel.callLook tunnel.callInitiation tunnel.callResponse tunnel.callCookie tunnel.callTimeout tunnel.callEvent tunnel.callDeadline tunnel.callMissing handleTimeout.clearAll handleTimeout.expireControl handleTimeout.scheduling handleTimeout.queueKeepalive handleTimeout.keepaliveDue handleTimeout.passiveTimers handleTimeout.keepaliveTimers handleTimeout.sendKeepalive handleTimeout.keepaliveIfDue handleTimeout.rekeyDue handleTimeout.rekeyOrKeepalive handleTimeout.giveUpOrRetry handleTimeout.maintainConnection handleTimeout.isLost handleTimeout.isReplaced handleTimeout.expireSessions handleTimeout.sendScheduled handleTimeout.handleDue handleTimeout.handleTimeout pollTimeout.scheduledHandshake pollTimeout.earliestExpiry pollTimeout.cookieDeadline pollTimeout.rejectDeadline pollTimeout.attemptDeadline pollTimeout.handshakeRekeyTimeout pollTimeout.foundOnSend pollTimeout.foundAfterMessages pollTimeout.foundOnReceive pollTimeout.responseDeadline pollTimeout.passiveDeadline pollTimeout.persistentDeadline pollTimeout.currentPersistentDeadline pollTimeout.commonDeadline pollTimeout.rekeyDeadline pollTimeout.keepaliveDeadline pollTimeout.unscheduledDeadline pollTimeout.nextDeadline pollTimeout.notBefore pollTimeout.pollTimeout calls.step calls.after made.made made.caseBatch made.caseWaking made.caseAnswer made.caseMessage made.insertionBy made.inserted receiving.committing receiving.historyFrom sending.still sending.putLast sending.keepaliveBy sending.wokenGrant sending.answeredGrant sending.wokenGrants sending.grantsFrom sending.polledBy sending.polled wakings.took wakings.ran wakings.ranAfter lists.upFrom sending.countersOf example.creation example.calls example.here example.batch
+unfolding laws.commits lastHeard.hearing lastHeard.heardFrom count.onesIn count.ones bits.bit choice.choose sums.sum window.bitAt window.checkBit window.setBit window.clearBit window.clears window.advance window.isInvalid window.willAccept window.nextAfter window.wordsAfter window.skippedBy window.markDidReceive index.wrappingIncrement store.slotWords store.putSlot lists.zeros lists.onesOf store.missingOf sessionsCases.caseTime sessionsCases.caseRole sessionsCases.caseReserved session.dueBy session.least session.earlier session.newSession session.emptySession session.rekeyAfterTimeOnSend session.rejectAfterTimeOnReceive session.expiresAt session.expiredAt session.shouldUseAt session.rekeyAfterMessagesReached session.sendingCounterExhausted session.preparePacketData session.reserveCounters session.willReceive sessionsCases.caseFound sessionsCases.caseSelected sessionsCases.caseMissing sessions.emptySlots sessions.newSessions sessions.inSlotOf sessions.get sessions.put sessions.currentOf sessions.inCurrentSlot sessions.ahead sessions.nextIndex sessions.inserting sessions.insert sessions.usable sessions.sendingSession sessions.isIndex sessions.select sessions.setCurrent sessions.clear sessions.emptied sessions.expiredSlot sessions.discard sessions.expireSlot sessions.expireFirst sessions.expire first.noneOf sessions.slotExpiry sessions.firstExpiry sessions.missing sessionsCases.caseReceived batch.known batch.fits batch.finishReceivePacketData batch.finishAll batch.receivingSession batch.receive history.verdictOn history.recorded history.recordedAll history.verdictsOn damage.timeHolds damage.stateHolds damage.inRange damage.intervalHolds damage.bothAtMost damage.eventHolds sessionsDamage.slotHolds sessionsDamage.slotsHold damage.queueHolds damage.eventsHold damage.handshakeHolds damage.packetTimersHold damage.dataTimersHold damage.fieldsHold damage.timersHold tunnelCases.caseEvent tunnelCases.caseState tunnelCases.caseCompleted tunnelCases.caseCookie handshake.newHandshake handshake.awaits handshake.isInProgress handshake.inFlightInitiation handshake.setExpired handshake.isExpired handshake.cookieExpiration handshake.clearCookie handshake.expireCookie handshake.appendMac1AndMac2 handshake.initiateHandshake handshake.receiveHandshakeInitialization handshake.expects handshake.receiveHandshakeResponse handshake.receiveCookieReply ringBuffer.placeOf ringBuffer.emptyPlaces ringBuffer.newRing ringBuffer.ringIsEmpty ringBuffer.storeAt ringBuffer.pushBack ringBuffer.popFront ringBuffer.eventsFrom ringBuffer.queued ringBuffer.newest ringBuffer.oldest tunnelCases.caseInterval timers.newTimers timers.rejectAfterTimeOf timers.rekeyAttemptDeadline timers.rekeyAfterTimeWithoutResponse timers.keepaliveAfterTimeWithoutSend timers.nextPersistentKeepalive timers.clearTimers timers.tickLastHandshakeCompleted timers.tickLastHandshakeStarted timers.tickLastPacketReceived timers.tickLastPacketSent timers.tickLastDataPacketReceived timers.getOr timers.tickLastDataPacketSent timers.tickPersistentKeepalive timers.rekeyTimeoutOf timers.scheduleHandshake timers.cancelScheduledHandshake timers.consumePassiveKeepalive timers.tickAccepted timers.tickResponse timers.tickCompleted timers.tickInitiation answer.numberOf answer.eventWord answer.eventValues answer.timeWord answer.timeValues answer.answerWord answer.valuesOf arguments.intervalOf arguments.openingOutcome arguments.initiationOutcome arguments.lacking arguments.badOutcome arguments.badJitter arguments.badBatch arguments.creationNumber damage.storedHolds damage.controlHolds undamaged control.newControl control.refuse control.done control.expiredControl control.queueing control.pollEvent control.missingReport handleHandshake.responding handleHandshake.respond handleHandshake.handleHandshakeInitiation handleHandshake.confirming handleHandshake.establish handleHandshake.complete handleHandshake.handleHandshakeResponse handleHandshake.handleCookieReply initiateHandshake.initiating initiateHandshake.initiate initiateHandshake.restartHandshake initiateHandshake.startHandshake tunnelCases.caseDatagram encapsulate.beginEncapsulate encapsulate.finishEncapsulate encapsulate.grant encapsulate.send encapsulate.encryptKeepalive decapsulate.confirmFirstSession decapsulate.accept decapsulate.commitDecapsulate decapsulate.beginDecapsulate tunnel.newTunnel tunnel.gate tunnel.timelessGate tunnel.refused tunnel.letThrough tunnel.timed tunnel.timeless tunnel.kept tunnel.timedTurn tunnel.timedBatch tunnel.callNew tunnel.callStart tunnel.callRestart tunnel.callSend tunnel.callReceive tunnel.callLook tunnel.callInitiation tunnel.callResponse tunnel.callCookie tunnel.callTimeout tunnel.callSettle tunnel.callEvent tunnel.callDeadline tunnel.callMissing handleTimeout.clearAll handleTimeout.expireControl handleTimeout.scheduling handleTimeout.queueKeepalive handleTimeout.keepaliveDue handleTimeout.passiveTimers handleTimeout.keepaliveTimers handleTimeout.sendKeepalive handleTimeout.keepaliveIfDue handleTimeout.rekeyDue handleTimeout.rekeyOrKeepalive handleTimeout.giveUpOrRetry handleTimeout.maintainConnection handleTimeout.isLost handleTimeout.isReplaced handleTimeout.expireSessions handleTimeout.sendScheduled handleTimeout.handleDue handleTimeout.handleTimeout settling.wakingDue settling.repeatWaking settling.settle pollTimeout.scheduledHandshake pollTimeout.earliestExpiry pollTimeout.cookieDeadline pollTimeout.rejectDeadline pollTimeout.attemptDeadline pollTimeout.handshakeRekeyTimeout pollTimeout.foundOnSend pollTimeout.foundAfterMessages pollTimeout.foundOnReceive pollTimeout.responseDeadline pollTimeout.passiveDeadline pollTimeout.persistentDeadline pollTimeout.currentPersistentDeadline pollTimeout.commonDeadline pollTimeout.rekeyDeadline pollTimeout.keepaliveDeadline pollTimeout.unscheduledDeadline pollTimeout.nextDeadline pollTimeout.notBefore pollTimeout.pollTimeout calls.step calls.after made.made made.caseBatch made.caseWaking made.caseAnswer made.wakingsOf made.caseMessage made.insertionBy made.inserted receiving.committing receiving.historyFrom sending.still sending.putLast sending.keepaliveBy sending.wakingGrant sending.wakingGrants sending.wokenGrant sending.answeredGrant sending.wokenGrants sending.grantsFrom sending.polledBy sending.polled wakings.took wakings.ran wakings.ranAfter lists.upFrom sending.countersOf example.creation example.calls example.here example.batch example.settled
 example-law =
     let one : insertions (made.made (created example.creation) example.calls) ≡ 1 = refl in
     let few : insertions (made.made (created example.creation) example.calls) < 2 ^ 64 = omega (arith, one) in
@@ -92,6 +93,9 @@ example-law =
       unpolled = refl;
       answered = refl;
       polls = refl;
+      settles = refl;
+      settledGrants = refl;
+      settledPolls = refl;
       canSend =
           record {
             some = omega arith;

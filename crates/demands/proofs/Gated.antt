@@ -2,9 +2,11 @@
 -- Assumes nothing.
 use mathlib.Core.Path.{_≡_, refl}
 use mathlib.Core.Bool.{Bool, true, false}
+use mathlib.Core.List.{List}
 use Prim.Native.Nat.{ℕ, _≤_}
 use native.Mathlib.Omega.{arith}
-use borrow.Author.Tests.{le-ltb}
+use lib.Dec.{eqb}
+use borrow.Author.Tests.{le-ltb, eqb-true, eqb-false}
 use Rattle.base.specs.Choice.{choose}
 use Rattle.demands.specs.Calls.Call.{send}
 use Rattle.demands.specs.Calls.{World, step, Expired}
@@ -12,12 +14,12 @@ use Rattle.sessions.specs.Session.{timeLimit}
 use Rattle.tunnel.proofs.Laws.{undamaged-law, numbers-law}
 use Rattle.tunnel.specs.Answer.{numberOf}
 use Rattle.tunnel.specs.Cases.{caseState}
-use Rattle.tunnel.specs.Control.{expiredControl}
+use Rattle.tunnel.specs.Control.{Turn, expiredControl}
 use Rattle.tunnel.specs.Damage.{undamaged}
 use Rattle.tunnel.specs.Facts.{Undamaged}
 use Rattle.tunnel.specs.Handshake.{isExpired}
 use Rattle.tunnel.specs.Numbers.{Alive}
-use Rattle.tunnel.specs.Tunnel.{gate, letThrough, timed}
+use Rattle.tunnel.specs.Tunnel.{Called, gate, refused, letThrough, timed, kept, timedTurn}
 use Rattle.tunnel.specs.declared.control.Out.{Out}
 use Rattle.tunnel.specs.declared.handshake.HandshakeState as states
 use Rattle.tunnel.specs.declared.handshake.HandshakeState.the-variants.{None, InitSent}
@@ -33,6 +35,17 @@ module _ (t : Tunnel) (bad : Bool) (now : ℕ) where
   pub timed-open : (out : Out) → gate t bad now ≡ 0 → timed t bad now out .answer ≡ out .answer
   unfolding timed letThrough choose
   timed-open out e = rw e refl
+
+-- a call with a store: what holds of it let through by the checks and of it turned down holds of what it hands back
+module _ (P : Called → Type 0) (t : Tunnel) (bad : Bool) (now : ℕ) (store : List ℕ) (turn : Turn) where
+  pub of-turn : (gate t bad now ≡ 0 → P (record { answered = letThrough t now (turn .out); store = turn .store }))
+      → ((number : ℕ) → (number ≡ 0 → ⊥) → P (record { answered = refused t number; store = store })) → P (timedTurn t bad now store turn)
+  unfolding timedTurn timed kept choose
+  of-turn p q = go (eqb (gate t bad now) 0) refl
+    where
+      go : (f : Bool) → eqb (gate t bad now) 0 ≡ f → P (timedTurn t bad now store turn)
+      go true e = rw e (p (eqb-true _ 0 e))
+      go false e = rw e (q (gate t bad now) (eqb-false _ 0 e))
 
 -- the test for an expired tunnel
 test-alive : (state : HandshakeState) → (state ≡ states.the-variants.Expired → ⊥) → caseState state false (λ local sent. false) true ≡ false

@@ -3,7 +3,7 @@
 use mathlib.Core.Path.{refl, sym, subst}
 use mathlib.Core.List.{List, [], _∷_}
 use Prim.Native.Nat.{ℕ}
-use Rattle.demands.specs.Calls.Call.{start, restart, send, receive, look, initiation, response, cookie, timeout, event, deadline, missing}
+use Rattle.demands.specs.Calls.Call.{start, restart, send, receive, look, initiation, response, cookie, timeout, settle, event, deadline, missing}
 use Rattle.demands.proofs.Created.{good-made}
 use Rattle.demands.specs.Calls.{Call, World, step, after, Creation, created, Good}
 use Rattle.demands.specs.Grown.{Grown}
@@ -27,6 +27,7 @@ sound-step w (initiation peer outcome now) s = sound-law (w .tunnel) s .initiati
 sound-step w (response receiver peer outcome now) s = sound-law (w .tunnel) s .response (w .store) receiver peer outcome now
 sound-step w (cookie receiver outcome now) s = sound-law (w .tunnel) s .cookie receiver outcome now
 sound-step w (timeout jitter now) s = sound-law (w .tunnel) s .timeout (w .store) jitter now
+sound-step w (settle jitter now) s = sound-law (w .tunnel) s .settle (w .store) jitter now
 sound-step w event s = sound-law (w .tunnel) s .event
 sound-step w deadline s = sound-law (w .tunnel) s .deadline
 sound-step w (missing index) s = sound-law (w .tunnel) s .missing (w .store) index
@@ -55,6 +56,7 @@ none-step w (initiation peer outcome now) n = expired-law (w .tunnel) (w .store)
 none-step w (response receiver peer outcome now) n = expired-law (w .tunnel) (w .store) n .response receiver peer outcome now
 none-step w (cookie receiver outcome now) n = expired-law (w .tunnel) (w .store) n .cookie receiver outcome now
 none-step w (timeout jitter now) n = expired-law (w .tunnel) (w .store) n .timeout jitter now
+none-step w (settle jitter now) n = expired-law (w .tunnel) (w .store) n .settle jitter now
 none-step w event n = expired-law (w .tunnel) (w .store) n .event
 none-step w deadline n = expired-law (w .tunnel) (w .store) n .deadline
 none-step w (missing index) n = expired-law (w .tunnel) (w .store) n .missing index

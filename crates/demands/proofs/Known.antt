@@ -11,7 +11,7 @@ use Rattle.tunnel.specs.Control.{withHandshake, outOf, refuse, done, queueing, 
 use Rattle.tunnel.specs.InitiateHandshake.{initiate, initiating, restartHandshake, startHandshake}
 use Rattle.tunnel.specs.HandleHandshake.{handleCookieReply}
 use Rattle.tunnel.specs.Decapsulate.{beginDecapsulate, confirmFirstSession}
-use Rattle.tunnel.specs.declared.answer.Answer.the-variants.{No, Done, NoAnswer, Initiation, Response, Keepalive, Granted, Polled, Deadline, Report}
+use Rattle.tunnel.specs.declared.answer.Answer.the-variants.{No, Done, NoAnswer, Initiation, Response, Keepalive, Granted, Polled, Deadline, Report, Woke}
 use Rattle.tunnel.specs.declared.answer.Answer.{Answer}
 use Rattle.tunnel.specs.declared.control.Control.{Control}
 use Rattle.tunnel.specs.declared.control.Out.{Out}
@@ -55,6 +55,7 @@ plain-of (Initiation local) e = record { granted = λ n w. refl; polled = refl; 
 plain-of (Response local peer) e = record { granted = λ n w. refl; polled = refl; ungranted = λ r p. (let z : _≡_ {A = ℕ} 0 1 = cc in omega arith) }
 plain-of (Deadline time) e = record { granted = λ n w. refl; polled = refl; ungranted = λ r p. (let z : _≡_ {A = ℕ} 0 1 = cc in omega arith) }
 plain-of (Report count) e = record { granted = λ n w. refl; polled = refl; ungranted = λ r p. (let z : _≡_ {A = ℕ} 0 1 = cc in omega arith) }
+plain-of (Woke wakings) e = record { granted = λ n w. refl; polled = refl; ungranted = λ r p. (let z : _≡_ {A = ℕ} 0 1 = cc in omega arith) }
 
 -- the same insertions, grants and keepalives, said otherwise
 pub known-as : (ins m : List Insertion) (h : ℕ → Past) (g f k l : List Grant) (polls z : List PolledKeepalive) (c : Control) (store : List ℕ)

@@ -19,6 +19,7 @@ pub mod Peers
 pub mod Queued
 pub mod Ran
 pub mod Receiving
+pub mod Repeated
 pub mod Sendable
 pub mod Sending
 pub mod Settings

@@ -11,11 +11,11 @@ use Rattle.demands.proofs.Held.{Past, insertionAt}
 use Rattle.demands.proofs.Known.{Known}
 use Rattle.demands.proofs.Queued.{keepaliveIn, put-none}
 use Rattle.demands.proofs.Sendable.{current-message}
-use Rattle.demands.proofs.Stepped.{put, pushed, woke-step}
+use Rattle.demands.proofs.Repeated.{pushed, woke-step}
 use Rattle.demands.proofs.Waked.Waked.{silent, queues, grants}
 use Rattle.demands.proofs.Waked.{Waked}
 use Rattle.demands.specs.Calls.Call.{send, timeout}
-use Rattle.demands.specs.Calls.{Reply, World, step}
+use Rattle.demands.specs.Calls.{World, step}
 use Rattle.demands.specs.Made.{caseAnswer, Insertion}
 use Rattle.demands.specs.Sending.{Grant, currentIn, putBy, PolledKeepalive, polledBy}
 use Rattle.sessions.specs.declared.range.Range.{Range}
@@ -64,15 +64,16 @@ module _ (w : World) (ins : List Insertion) (h : ℕ → Past) (g k : List Grant
   unfolding polledBy caseAnswer caseEvent
   keepalive-some peer counter e = let z : _≡_ {A = ℕ} 0 1 = cc in omega arith
 
-  of-waked : (jitter now peer counter : ℕ) (reply : Reply) → Waked (w .tunnel .control) (w .store) (reply .world .tunnel .control) (reply .world .store)
-      → put ins h g k polls w y jitter now reply ≡ SendKeepalive peer counter → Whose peer
-  of-waked jitter now peer counter reply (silent v e) p =
-      let q : SendKeepalive peer counter ≡ Empty = sym p ∙ put-none _ _ e in
-      let z : _≡_ {A = ℕ} 0 1 = cc in absurd (omega arith)
-  of-waked jitter now peer counter reply (queues ev u v e) p =
-      absurd (keepalive-some peer counter (ap keepaliveIn (sym (sym (pushed ins h g k polls w y jitter now reply ev e) ∙ p)) ∙ u .granted))
-  of-waked jitter now peer counter reply (grants x to first q r v e) p =
-      (x, q, its-peer x q ∙ r ∙ keepalive-peer to first peer counter (sym (pushed ins h g k polls w y jitter now reply _ e) ∙ p))
+  module _ (jitter now peer counter : ℕ) where
+    of-waked : Waked (w .tunnel .control) (w .store) (step w (timeout jitter now) .world .tunnel .control) (step w (timeout jitter now) .world .store)
+        → putBy w (timeout jitter now) ≡ SendKeepalive peer counter → Whose peer
+    of-waked (silent v e) p =
+        let q : SendKeepalive peer counter ≡ Empty = sym p ∙ put-none _ _ e in
+        let z : _≡_ {A = ℕ} 0 1 = cc in absurd (omega arith)
+    of-waked (queues ev u v e) p =
+        absurd (keepalive-some peer counter (ap keepaliveIn (sym (sym (pushed ins h g k polls w y jitter now ev e) ∙ p)) ∙ u .granted))
+    of-waked (grants x to first q r v e) p =
+        (x, q, its-peer x q ∙ r ∙ keepalive-peer to first peer counter (sym (pushed ins h g k polls w y jitter now _ e) ∙ p))
 
-  pub wakes : (jitter now peer counter : ℕ) → putBy w (timeout jitter now) ≡ SendKeepalive peer counter → Whose peer
-  wakes jitter now peer counter p = of-waked jitter now peer counter (step w (timeout jitter now)) (woke-step ins h g k polls w y jitter now .waked) p
+    pub wakes : putBy w (timeout jitter now) ≡ SendKeepalive peer counter → Whose peer
+    wakes = of-waked (woke-step ins h g k polls w y jitter now .waked)

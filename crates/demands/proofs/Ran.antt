@@ -13,14 +13,14 @@ use Rattle.tunnel.specs.declared.control.Out.{Out}
 use Rattle.demands.proofs.Created.{good-made}
 use Rattle.demands.proofs.Grown.{sound-step, sound-created}
 use Rattle.demands.proofs.Twins.{deadline-still}
-use Rattle.demands.specs.Calls.Call.{start, restart, send, receive, look, initiation, response, cookie, timeout, event, deadline, missing}
+use Rattle.demands.specs.Calls.Call.{start, restart, send, receive, look, initiation, response, cookie, timeout, settle, event, deadline, missing}
 use Rattle.demands.specs.Calls.{Call, World, step, after, Creation, created, Good}
 use Rattle.demands.specs.Wakings.{Ran, took, ran, ranNew, ranAfter}
 use Rattle.sessions.specs.Session.{timeLimit}
 use Rattle.base.specs.Lists.{zeros}
 use Rattle.tunnel.specs.Damage.{undamaged}
 use Rattle.tunnel.specs.Sound.{Sound}
-use Rattle.tunnel.specs.Tunnel.{newTunnel, gate, timelessGate, refused, letThrough, timed, timeless, kept, timedTurn, timedBatch, callStart, callRestart, callSend, callReceive, callLook, callInitiation, callResponse, callCookie, callTimeout, callEvent, callMissing}
+use Rattle.tunnel.specs.Tunnel.{newTunnel, gate, timelessGate, refused, letThrough, timed, timeless, kept, timedTurn, timedBatch, callStart, callRestart, callSend, callReceive, callLook, callInitiation, callResponse, callCookie, callTimeout, callSettle, callEvent, callMissing}
 use Rattle.tunnel.specs.declared.tunnel.Answered.{Answered}
 use Rattle.tunnel.specs.declared.tunnel.Tunnel.{Tunnel}
 
@@ -73,7 +73,7 @@ module _ (t : Tunnel) (store : List ℕ) (u : undamaged t ≡ true) where
 -- the Rust after a call
 pub ran-step : (w : World) (call : Call) → undamaged (w .tunnel) ≡ true
     → ran (ranOf (w .tunnel) (w .store)) call ≡ ranOf (step w call .world .tunnel) (step w call .world .store)
-unfolding ran step callStart callRestart callSend callReceive callLook callInitiation callResponse callCookie callTimeout callMissing timedTurn timedBatch
+unfolding ran step callStart callRestart callSend callReceive callLook callInitiation callResponse callCookie callTimeout callSettle callMissing timedTurn timedBatch
 ran-step w (start now) u = took-plain (w .tunnel) (w .store) u _ now _
 ran-step w (restart now) u = took-plain (w .tunnel) (w .store) u _ now _
 ran-step w (send count now) u = took-plain (w .tunnel) (w .store) u _ now _
@@ -83,6 +83,7 @@ ran-step w (initiation peer outcome now) u = took-is (w .tunnel) (w .store) u _ 
 ran-step w (response receiver peer outcome now) u = took-is (w .tunnel) (w .store) u _ now _ _
 ran-step w (cookie receiver outcome now) u = took-plain (w .tunnel) (w .store) u _ now _
 ran-step w (timeout jitter now) u = took-is (w .tunnel) (w .store) u _ now _ _
+ran-step w (settle jitter now) u = took-is (w .tunnel) (w .store) u _ now _ _
 ran-step w event u = event-is (w .tunnel) (w .store) u
 ran-step w deadline u = ap (λ (t : Tunnel). ranOf t (w .store)) (sym (deadline-still (w .tunnel) u))
 ran-step w (missing index) u = stays-timeless (w .tunnel) (w .store) u _ _ (missing-stays (w .tunnel) (w .store) u index)

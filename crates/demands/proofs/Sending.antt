@@ -1,5 +1,5 @@
--- Demand 2, sending: the counters that a session grants are 0, 1, 2 on, the keepalives polled are the wakings', and a send is answered by what the
--- current session has left.
+-- Demand 2, sending: the counters that a session grants are 0, 1, 2 on, the keepalives polled are those of wakings and settlings, and a send is
+-- answered by what the current session has left.
 -- Assumes nothing.
 use mathlib.Core.Path.{_≡_, refl, ap, sym, _∙_}
 use mathlib.Core.Bool.{true}

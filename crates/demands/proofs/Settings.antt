@@ -1,7 +1,7 @@
 -- The persistent keepalive's setting stays over every call.
 -- Assumes nothing.
 use mathlib.Core.Path.{_≡_, _∙_}
-use Rattle.demands.specs.Calls.Call.{start, restart, send, receive, look, initiation, response, cookie, timeout, event, deadline, missing}
+use Rattle.demands.specs.Calls.Call.{start, restart, send, receive, look, initiation, response, cookie, timeout, settle, event, deadline, missing}
 use Rattle.demands.specs.Calls.{Call, World, step}
 use Rattle.tunnel.proofs.Laws.{setting-law}
 use Rattle.tunnel.specs.Laws.{settingOf}
@@ -18,6 +18,7 @@ setting-same w (initiation peer outcome now) = setting-law (w .tunnel) (w .store
 setting-same w (response receiver peer outcome now) = setting-law (w .tunnel) (w .store) .response receiver peer outcome now
 setting-same w (cookie receiver outcome now) = setting-law (w .tunnel) (w .store) .cookie receiver outcome now
 setting-same w (timeout jitter now) = setting-law (w .tunnel) (w .store) .timeout jitter now
+setting-same w (settle jitter now) = setting-law (w .tunnel) (w .store) .settle jitter now
 setting-same w event = setting-law (w .tunnel) (w .store) .event
 setting-same w deadline = setting-law (w .tunnel) (w .store) .deadline
 setting-same w (missing index) = setting-law (w .tunnel) (w .store) .missing index

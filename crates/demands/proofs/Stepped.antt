@@ -7,15 +7,16 @@ use Prim.Native.Nat.{ℕ, _+_, _^_, _<_}
 use native.Mathlib.Omega.{arith}
 use lib.Dec.{eqb}
 use lib.ListN.{length}
-use borrow.Author.Tests.{eqb-true, eqb-false}
+use borrow.Author.Tests.{eqb-false}
 use Rattle.base.proofs.Choice.{yes-eq, no-eq, same-choice, of-choice}
 use Rattle.base.specs.Choice.{choose}
 use Rattle.tunnel.specs.Answer.{numberOf}
-use Rattle.tunnel.specs.Control.{Turn, refuse, done, pollEvent}
-use Rattle.tunnel.specs.declared.answer.Answer.the-variants.{No, Done}
+use Rattle.tunnel.specs.Control.{Turn, refuse, pollEvent}
+use Rattle.tunnel.specs.declared.answer.Answer.the-variants.{No, Done, Woke}
 use Rattle.tunnel.specs.declared.answer.Answer.{Answer}
 use Rattle.tunnel.specs.declared.control.Control.{Control}
 use Rattle.tunnel.specs.declared.control.Out.{Out}
+use Rattle.demands.proofs.Gated.{of-turn}
 use Rattle.demands.proofs.Granting.Sends.{none, some}
 use Rattle.demands.proofs.Granting.{Sends, sends-some}
 use Rattle.demands.proofs.Held.{Past, SlotHeld}
@@ -24,34 +25,27 @@ use Rattle.demands.proofs.Inserting.{Inserts, inserts-initiation, inser
 use Rattle.demands.proofs.Judging.Judged.{turned, taken}
 use Rattle.demands.proofs.Judging.{Judged, judged-batch}
 use Rattle.demands.proofs.Known.{Known, Plain, plain-of, known-as, known-same, Idle, idle-refused, idle-start, idle-restart, idle-look, idle-cookie, known-event, ungranted-event, idle-deadline, idle-missing}
-use Rattle.demands.proofs.Queued.{queue-push, queue-granted, put-none, put-pushed}
-use Rattle.demands.proofs.Waked.Waked.{silent, queues, grants}
-use Rattle.demands.proofs.Waked.{Waked, From, woken}
-use Rattle.demands.specs.Calls.Call.{start, restart, send, receive, look, initiation, response, cookie, timeout, event, deadline, missing}
+use Rattle.demands.proofs.Repeated.{woke-step, known-waking, known-repeated}
+use Rattle.demands.specs.Calls.Call.{start, restart, send, receive, look, initiation, response, cookie, timeout, settle, event, deadline, missing}
 use Rattle.demands.specs.Calls.{Call, World, Reply, stored, batched, step}
-use Rattle.demands.specs.Made.{caseBatch, caseWaking, caseMessage, caseAnswer, Insertion, insertion, insertionBy}
+use Rattle.demands.specs.Made.{caseBatch, caseWaking, caseMessage, caseAnswer, wakingsOf, Insertion, insertion, insertionBy}
 use Rattle.demands.specs.LastHeard.{hearing}
 use Rattle.demands.specs.Receiving.{committing}
-use Rattle.demands.specs.Sending.{Grant, granting, currentIn, putLast, keepaliveBy, wokenGrant, answeredGrant, PolledKeepalive, polledBy}
-use Rattle.tunnel.specs.Cases.{caseEvent}
-use Rattle.tunnel.specs.RingBuffer.{pushBack}
-use Rattle.tunnel.specs.declared.event.Event.the-variants.{Empty, SendKeepalive}
-use Rattle.tunnel.specs.declared.event.Event.{Event}
+use Rattle.demands.specs.Sending.{Grant, granting, wakingGrants, wokenGrant, answeredGrant, PolledKeepalive, polledBy}
 use Rattle.demands.specs.History.{recordedAll}
 use Rattle.sessions.specs.Cases.{caseFound}
 use Rattle.sessions.specs.Laws.{commits}
-use Rattle.sessions.specs.Sessions.{currentOf}
 use Rattle.sessions.specs.Batch.{Batched}
-use Rattle.sessions.specs.declared.session.Session.{Session}
 use Rattle.sessions.specs.declared.session.Time.the-variants.{At}
 use Rattle.sessions.specs.declared.session.Time.{Time}
-use Rattle.sessions.specs.declared.sessions.Found.the-variants.{Got}
-use Rattle.tunnel.proofs.Laws.{gate-law, response-law}
+use Rattle.tunnel.proofs.Laws.{gate-law, response-law, settle-law}
 use Rattle.tunnel.specs.Arguments.{initiationOutcome, openingOutcome}
 use Rattle.tunnel.specs.Sound.{Sound}
-use Rattle.tunnel.specs.Tunnel.{Called, gate, refused, letThrough, timed, timeless, kept, timedTurn, timedBatch, callStart, callRestart, callSend, callReceive, callLook, callInitiation, callResponse, callCookie, callTimeout, callEvent, callDeadline, callMissing}
+use Rattle.tunnel.specs.Tunnel.{Called, gate, refused, letThrough, timed, timeless, kept, timedTurn, timedBatch, callStart, callRestart, callSend, callReceive, callLook, callInitiation, callResponse, callCookie, callSettle, callEvent, callDeadline, callMissing}
 use Rattle.tunnel.specs.declared.tunnel.Answered.{Answered}
-use Rattle.tunnel.specs.HandleTimeout.{handleTimeout}
+use Rattle.tunnel.specs.Settle as settling
+use Rattle.tunnel.specs.Settled.{Repeats, Settles}
+use Rattle.tunnel.specs.declared.tunnel.Tunnel.{Tunnel}
 
 -- a session's past with a call
 abbrev passing : ℕ → Past → Call → Reply → Past
@@ -239,86 +233,45 @@ module _ (ins : List Insertion) (h : ℕ → Past) (g k : List Grant) (polls : L
     unfolding step callReceive timedBatch timed kept framed
     next-receive = of-framed _ (gate (w .tunnel) _ now) _ refl (judged-batch (w .tunnel .control) (w .store) index id now counters kinds verdicts skips)
 
-  -- what a call with a store hands back, by the number of its checks
-  framed-turn : (now number : ℕ) (t : Turn) → Called
-  framed-turn now number t =
-      record {
-        answered = choose (eqb number 0) (letThrough (w .tunnel) now (t .out)) (refused (w .tunnel) number);
-        store = choose (eqb number 0) (t .store) (w .store);
-      }
+  -- grants added to what is known, by a call whose answer stands for none
+  next-woken : (m : List Insertion) (more : List Grant) (reply : Reply) → m ≡ [] → Plain (reply .answer)
+      → Known ins h (g ++ more) (k ++ more) polls (reply .world .tunnel .control) (reply .world .store)
+      → Known (ins ++ m) h (g ++ (answeredGrant (length ins) w (reply .answer) ++ more)) (k ++ more) (polls ++ polledBy (reply .answer))
+      (reply .world .tunnel .control) (reply .world .store)
+  next-woken m more reply e p v =
+      known-as ins _ h _ _ _ _ polls _ _ _ (rw e (append-nil ins)) (rw (p .granted (length ins) w)) refl (rw (p .polled) (append-nil polls)) v
 
-  -- a waking
   module _ (jitter now : ℕ) where
-    abbrev waking : Call
-    waking = timeout jitter now
+    -- a waking
+    next-timeout : Next ins h g k polls w (timeout jitter now) (step w (timeout jitter now))
+    unfolding committing hearing caseBatch wokenGrant caseWaking insertionBy caseMessage
+    next-timeout =
+        next-woken _ _ (step w (timeout jitter now)) (same-choice _ []) (woke-step ins h g k polls w y jitter now .plain)
+        (known-waking ins h g k polls w y jitter now)
 
-    abbrev pub put : Reply → Event
-    put reply = putLast (w .tunnel .control .events) (reply .world .tunnel .control .events)
+    -- a settling that hands this back: one that stands for a repetition, and one turned down
+    abbrev Settled : Called → Type 0
+    Settled c = Next ins h g k polls w (settle jitter now) (stored c)
 
-    ungranted : (reply : Reply) (e : Event) → put reply ≡ e → keepaliveBy (currentIn w) e ≡ [] → wokenGrant w waking reply ≡ []
-    unfolding wokenGrant caseWaking
-    ungranted reply e p q = rw p q
+    of-settles : (c : Called) (wakings : ℕ) (last : Tunnel) (left : List ℕ) → Repeats jitter now (w .tunnel) (w .store) wakings last left
+        → c .answered .answer ≡ Woke wakings → c .answered .tunnel .control ≡ last .control → c .store ≡ left → Settled c
+    unfolding committing hearing caseBatch wokenGrant caseWaking wakingsOf insertionBy caseMessage caseAnswer
+    of-settles c wakings last left r a t e =
+        next-woken _ _ (stored c) (same-choice _ []) (rw a (plain-of (Woke wakings) refl))
+        (rw (a, t, e) (known-repeated r ins h g k polls y))
 
-    granted : (reply : Reply) (x : Session) (peer first : ℕ) → put reply ≡ SendKeepalive peer first → currentOf (w .tunnel .control .sessions) ≡ Got x
-        → wokenGrant w waking reply ≡ granting (x .id) peer first 1 ∷ []
-    unfolding wokenGrant caseWaking keepaliveBy caseEvent caseFound
-    granted reply x peer first p q = rw (p, q)
+    settle-refused : (number : ℕ) → Settled (record { answered = refused (w .tunnel) number; store = w .store })
+    unfolding committing hearing caseBatch wokenGrant caseWaking wakingsOf wakingGrants insertionBy caseMessage refused
+    settle-refused number = next-quiet _ _ (same-choice _ []) (turned-down number)
 
-    empty-none : keepaliveBy (currentIn w) Empty ≡ []
-    unfolding keepaliveBy caseEvent
-    empty-none = refl
-
-    -- the events that a waking puts
-    pub pushed : (reply : Reply) (e : Event) → reply .world .tunnel .control .events ≡ pushBack (w .tunnel .control .events) e → put reply ≡ e
-    pushed reply e p = rw p (put-pushed (w .tunnel .control .events) e (y .queue .ring))
-
-    next-waked : (reply : Reply) → Plain (reply .answer) → Waked (w .tunnel .control) (w .store) (reply .world .tunnel .control) (reply .world .store)
-        → Next ins h g k polls w waking reply
-    unfolding committing hearing caseBatch insertionBy caseMessage
-    next-waked reply p (silent v e) =
-        known-same ins _ h g _ k _ polls _ _ _ (same-choice _ []) (p .granted (length ins) w) (ungranted reply Empty (put-none _ _ e) empty-none) (p .polled)
-        (record { held = v ins h g (y .held); queue = rw e (y .queue) })
-    next-waked reply p (queues ev u v e) =
-        known-same ins _ h g _ k _ polls _ _ _ (same-choice _ []) (p .granted (length ins) w) (ungranted reply ev (pushed reply ev e) (u .grants _)) (p .polled)
-        (record { held = v ins h g (y .held); queue = rw e (queue-push k polls _ (y .queue) ev (u .granted)) })
-    next-waked reply p (grants x peer first q r v e) =
-        let l : wokenGrant w waking reply ≡ granting (x .id) peer first 1 ∷ [] = granted reply x peer first (pushed reply _ e) q in
-        known-as ins _ h (g ++ granting (x .id) peer first 1 ∷ []) _ (k ++ granting (x .id) peer first 1 ∷ []) _ polls _ _ _
-        (none-more _) (rw (p .granted (length ins) w, l)) (rw l) (rw (p .polled) (append-nil polls))
-        (record { held = v ins h g k polls y; queue = rw e (queue-granted k polls _ (y .queue) (x .id) peer first) })
-
-    from-here : From (w .tunnel .control) (w .store) (w .tunnel .control .sessions) (w .tunnel .control .events) (w .store)
-    from-here = record { held = λ m i f z. z; ring = refl; current = λ x e. e; eight = y .held .eight; size = y .held .size }
-
-    same-waked : Waked (w .tunnel .control) (w .store) (w .tunnel .control) (w .store)
-    same-waked = silent (λ m i f z. z) refl
-
-    -- what a waking does, with its answer
-    pub record Woke (reply : Reply) : Type 0 where
-      pub waked : Waked (w .tunnel .control) (w .store) (reply .world .tunnel .control) (reply .world .store)
-      pub plain : Plain (reply .answer)
-
-    -- a waking that the checks let through
-    abbrev let-through : Turn → Reply
-    let-through t = stored (record { answered = letThrough (w .tunnel) now (t .out); store = t .store })
-
-    woke : Woke (let-through (handleTimeout (w .tunnel .control) (w .store) jitter now))
-    unfolding handleTimeout letThrough done caseAnswer
-    woke =
-        of-choice (λ (t : Turn). Woke (let-through t)) _ _ _ (record { waked = same-waked; plain = plain-of _ refl })
-        (record { waked = woken (w .tunnel .control) (w .store) jitter now from-here; plain = plain-of _ refl })
-
-    of-turn : (f : Bool) (number : ℕ) (t : Turn) → eqb number 0 ≡ f → Woke (let-through t) → Woke (stored (framed-turn now number t))
-    unfolding framed-turn choose refused
-    of-turn true number t e z = rw e z
-    of-turn false number t e z = rw e (record { waked = same-waked; plain = turned-down number .plain })
-
-    pub woke-step : Woke (step w waking)
-    unfolding step callTimeout timedTurn timed kept framed-turn
-    woke-step = of-turn _ (gate (w .tunnel) _ now) _ refl woke
-
-    next-timeout : Next ins h g k polls w waking (step w waking)
-    next-timeout = next-waked (step w waking) (woke-step .plain) (woke-step .waked)
+    next-settle : Sound (w .tunnel) → Next ins h g k polls w (settle jitter now) (step w (settle jitter now))
+    unfolding step callSettle letThrough settling.settle numberOf
+    next-settle s =
+        of-turn (λ (c : Called). (numberOf (c .answered .answer) ≡ 0 → Settled c) → Settled c) (w .tunnel) _ now (w .store) _
+        (λ z settled. settled refl) (λ number d settled. settle-refused number)
+        (λ z.
+        let e : Settles (w .tunnel) (w .store) jitter now = settle-law (w .tunnel) (w .store) jitter now (s .eight) (s .sixteen) .ends z in
+        of-settles _ (e .wakings) (e .last) (e .left) (e .repeats) (e .comes .answer) (ap (λ (t : Tunnel). t .control) (e .comes .tunnel)) (e .comes .words))
 
   -- an incoming initiation and a response
   module _ (now : ℕ) where
@@ -349,28 +302,33 @@ module _ (ins : List Insertion) (h : ℕ → Past) (g k : List Grant) (polls : L
           (ap (λ (l : List Insertion). ins ++ l) (one-inserted (t .out .answer) (ap numberOf e))) (rw e) (append-nil k) (rw e (append-nil polls))
           (v ins h g k polls (few-inserted (t .out .answer) (ap numberOf e) few) y)
 
-      of-inserted : (f : Bool) (number : ℕ) (t : Turn) → eqb number 0 ≡ f → (number ≡ 0 → Inserts (w .tunnel .control) (w .store) message t)
-          → length ins + length (insertedBy message (framed-turn now number t .answered .answer)) < 2 ^ 64
-          → Then (insertedBy message (framed-turn now number t .answered .answer)) (framed-turn now number t .answered .answer)
-          (framed-turn now number t .answered .tunnel .control) (framed-turn now number t .store)
-      unfolding framed-turn choose letThrough refused numberOf
-      of-inserted true number t e i few = rw e (of-inserts t (rw e at few) (i (eqb-true number 0 e)))
-      of-inserted false number t e i few = rw e (next-quiet _ _ (none-inserted (No number) (eqb-false number 0 e)) (turned-down number))
+      -- what is known after a message that hands this back, if it inserts few enough
+      abbrev InsertedBy : Called → Type 0
+      InsertedBy c =
+          length ins + length (insertedBy message (c .answered .answer)) < 2 ^ 64
+          → Then (insertedBy message (c .answered .answer)) (c .answered .answer) (c .answered .tunnel .control) (c .store)
+
+      of-inserted : (bad : Bool) (t : Turn) → (gate (w .tunnel) bad now ≡ 0 → Inserts (w .tunnel .control) (w .store) message t)
+          → InsertedBy (timedTurn (w .tunnel) bad now (w .store) t)
+      unfolding letThrough refused numberOf
+      of-inserted bad t i =
+          of-turn InsertedBy (w .tunnel) bad now (w .store) t (λ z few. of-inserts t few (i z))
+          (λ number d few. next-quiet _ _ (none-inserted (No number) d) (turned-down number))
 
     next-initiation : (peer outcome : ℕ)
         → length ins + length (insertionBy (initiation peer outcome now) (step w (initiation peer outcome now) .answer)) < 2 ^ 64
         → Next ins h g k polls w (initiation peer outcome now) (step w (initiation peer outcome now))
-    unfolding step callInitiation timedTurn timed kept framed-turn committing hearing caseBatch wokenGrant caseWaking insertionBy caseMessage
+    unfolding step callInitiation committing hearing caseBatch wokenGrant caseWaking insertionBy caseMessage
     next-initiation peer outcome few =
-        of-inserted (insertion false peer now) _ (gate (w .tunnel) _ now) _ refl
+        of-inserted (insertion false peer now) _ _
         (λ z. inserts-initiation (w .tunnel .control) (w .store) peer (initiationOutcome outcome) now) few
 
     next-response : Sound (w .tunnel) → (receiver peer outcome : ℕ)
         → length ins + length (insertionBy (response receiver peer outcome now) (step w (response receiver peer outcome now) .answer)) < 2 ^ 64
         → Next ins h g k polls w (response receiver peer outcome now) (step w (response receiver peer outcome now))
-    unfolding step callResponse timedTurn timed kept framed-turn committing hearing caseBatch wokenGrant caseWaking insertionBy caseMessage
+    unfolding step callResponse committing hearing caseBatch wokenGrant caseWaking insertionBy caseMessage
     next-response s receiver peer outcome few =
-        of-inserted (insertion true peer now) _ (gate (w .tunnel) _ now) _ refl
+        of-inserted (insertion true peer now) _ _
         (λ z. inserts-response (w .tunnel .control) (w .store) receiver peer (openingOutcome outcome) now
         (λ handshake. response-law (w .tunnel) s handshake (w .store) receiver peer now (gate-law (w .tunnel) _ now .onward z) (y .held .size)))
         few
@@ -387,6 +345,7 @@ module _ (ins : List Insertion) (h : ℕ → Past) (g k : List Grant) (polls : L
   next s (response receiver peer outcome now) few = next-response now s receiver peer outcome few
   next s (cookie receiver outcome now) few = next-cookie receiver outcome now
   next s (timeout jitter now) few = next-timeout jitter now
+  next s (settle jitter now) few = next-settle jitter now s
   next s event few = next-event
   next s deadline few = next-deadline
   next s (missing index) few = next-missing index

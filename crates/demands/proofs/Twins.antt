@@ -18,7 +18,7 @@ use Rattle.tunnel.specs.declared.answer.Answer.the-variants.{Deadline}
 use Rattle.tunnel.specs.declared.answer.Answer.{Answer}
 use Rattle.tunnel.specs.declared.control.Control.{Control}
 use Rattle.tunnel.specs.declared.control.Out.{Out}
-use Rattle.demands.specs.Calls.Call.{start, restart, send, receive, look, initiation, response, cookie, timeout, event, deadline, missing}
+use Rattle.demands.specs.Calls.Call.{start, restart, send, receive, look, initiation, response, cookie, timeout, settle, event, deadline, missing}
 use Rattle.demands.specs.Calls.{Call, World, Reply, plain, stored, batched, step}
 use Rattle.demands.specs.Wakings.Alike.{equal, come}
 use Rattle.sessions.specs.Sessions.{slotAt}
@@ -31,10 +31,11 @@ use Rattle.sessions.specs.declared.session.Time.{Time}
 use Rattle.tunnel.proofs.Laws.{deadline-law, undamaged-law}
 use Rattle.tunnel.specs.Arguments.{openingOutcome, initiationOutcome, lacking, badOutcome, badJitter, badBatch}
 use Rattle.tunnel.specs.Damage.{undamaged}
-use Rattle.tunnel.specs.Tunnel.{gate, timelessGate, refused, letThrough, timed, timeless, kept, timedTurn, timedBatch, callStart, callRestart, callSend, callReceive, callLook, callInitiation, callResponse, callCookie, callTimeout, callEvent, callDeadline, callMissing}
+use Rattle.tunnel.specs.Tunnel.{gate, timelessGate, refused, letThrough, timed, timeless, kept, timedTurn, timedBatch, callStart, callRestart, callSend, callReceive, callLook, callInitiation, callResponse, callCookie, callTimeout, callSettle, callEvent, callDeadline, callMissing}
 use Rattle.tunnel.specs.declared.tunnel.Answered.{Answered}
 use Rattle.tunnel.specs.declared.tunnel.Tunnel.{Tunnel}
 use Rattle.tunnel.specs.HandleTimeout.{handleTimeout}
+use Rattle.tunnel.specs.Settle as settling
 
 -- the plain and the woken tunnel have the same control; the woken one's greatest time is at most this later than the plain one's
 pub record TwinTunnels (latest : ℕ) (p w : Tunnel) : Type 0 where
@@ -214,7 +215,7 @@ module _ {latest : ℕ} {p w : World} (h : Twins latest p w) (u : undamaged (p .
 
   -- every call
   pub calls-alike : (call : Call) → NotEarlier latest call → Pair latest (step p call) (step w call)
-  unfolding step timeOf callStart callRestart callSend callReceive callLook callInitiation callResponse callCookie callTimeout callEvent callMissing
+  unfolding step timeOf callStart callRestart callSend callReceive callLook callInitiation callResponse callCookie callTimeout callSettle callEvent callMissing
   calls-alike (start now) l = timed-pair _ _ now _ _ (l now refl) refl (ap (λ (c : Control). startHandshake c now) (h .tunnels .control))
   calls-alike (restart now) l = timed-pair _ _ now _ _ (l now refl) refl (ap (λ (c : Control). restartHandshake c now) (h .tunnels .control))
   calls-alike (send count now) l = timed-pair _ _ now _ _ (l now refl) refl (ap (λ (c : Control). encapsulate.send c count now) (h .tunnels .control))
@@ -235,6 +236,9 @@ module _ {latest : ℕ} {p w : World} (h : Twins latest p w) (u : undamaged (p .
   calls-alike (timeout jitter now) l =
       turn-pair _ _ now _ _ (l now refl) (ap (badJitter jitter) (h .store))
       (ap₂ (λ (c : Control) (s : List ℕ). handleTimeout c s jitter now) (h .tunnels .control) (h .store))
+  calls-alike (settle jitter now) l =
+      turn-pair _ _ now _ _ (l now refl) (ap (badJitter jitter) (h .store))
+      (ap₂ (λ (c : Control) (s : List ℕ). settling.settle c s jitter now) (h .tunnels .control) (h .store))
   calls-alike event l = plain-pair _ _ (timeless-alike (h .tunnels) u v _ _ _ _ refl (ap pollEvent (h .tunnels .control)))
   calls-alike deadline l = deadline-pair
   calls-alike (missing index) l =

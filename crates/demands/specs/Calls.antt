@@ -5,11 +5,11 @@ use Prim.Native.Nat.{ℕ}
 use Rattle.sessions.specs.Batch.{Batched}
 use Rattle.tunnel.specs.Answer.{numberOf}
 use Rattle.tunnel.specs.declared.answer.Answer.{Answer}
-use Rattle.tunnel.specs.Tunnel.{Called, callNew, callStart, callRestart, callSend, callReceive, callLook, callInitiation, callResponse, callCookie, callTimeout, callEvent, callDeadline, callMissing}
+use Rattle.tunnel.specs.Tunnel.{Called, callNew, callStart, callRestart, callSend, callReceive, callLook, callInitiation, callResponse, callCookie, callTimeout, callSettle, callEvent, callDeadline, callMissing}
 use Rattle.tunnel.specs.declared.tunnel.Answered.{Answered}
 use Rattle.tunnel.specs.declared.tunnel.Tunnel.{Tunnel}
 
--- a call that takes a tunnel, with all its arguments: `initiation` is an incoming one, `timeout` a waking
+-- a call that takes a tunnel, with all its arguments: `initiation` is an incoming one, `timeout` a waking, `settle` a settling
 pub data Call : Type 0 where
   start restart : (now : ℕ) → Call
   send : (count now : ℕ) → Call
@@ -18,7 +18,7 @@ pub data Call : Type 0 where
   initiation : (peer outcome now : ℕ) → Call
   response : (receiver peer outcome now : ℕ) → Call
   cookie : (receiver outcome now : ℕ) → Call
-  timeout : (jitter now : ℕ) → Call
+  timeout settle : (jitter now : ℕ) → Call
   event deadline : Call
   missing : (index : ℕ) → Call
 
@@ -59,6 +59,7 @@ step w (initiation peer outcome now) = stored (callInitiation (w .tunnel) (w .st
 step w (response receiver peer outcome now) = stored (callResponse (w .tunnel) (w .store) receiver peer outcome now)
 step w (cookie receiver outcome now) = plain (w .store) (callCookie (w .tunnel) receiver outcome now)
 step w (timeout jitter now) = stored (callTimeout (w .tunnel) (w .store) jitter now)
+step w (settle jitter now) = stored (callSettle (w .tunnel) (w .store) jitter now)
 step w event = plain (w .store) (callEvent (w .tunnel))
 step w deadline = plain (w .store) (callDeadline (w .tunnel))
 step w (missing index) = plain (w .store) (callMissing (w .tunnel) (w .store) index)

@@ -1,12 +1,13 @@
 -- A list of calls of which demand 2's statements speak, so that what they ask can be met: a handshake, data sent, a batch with a counter twice,
--- a jump that clears the window, a keepalive queued by a waking and polled; then a batch for the live session, and a send that it can meet.
+-- a jump that clears the window, a keepalive queued by a waking and polled; then a batch for the live session, a send that it can meet, and a
+-- keepalive granted by a settling and polled.
 use mathlib.Core.Path.{_≡_}
 use mathlib.Core.Bool.{true}
 use mathlib.Core.List.{List, [], _∷_, _++_}
 use Prim.Native.Nat.{_^_, _<_}
 use lib.ListN.{take}
-use Rattle.tunnel.specs.declared.answer.Answer.the-variants.{Polled}
-use Rattle.demands.specs.Calls.Call.{start, send, receive, response, timeout, event, missing}
+use Rattle.tunnel.specs.declared.answer.Answer.the-variants.{Polled, Woke}
+use Rattle.demands.specs.Calls.Call.{start, send, receive, response, timeout, settle, event, missing}
 use Rattle.demands.specs.Calls.{Call, World, step, after, Creation, created, Good}
 use Rattle.demands.specs.LastHeard.{heardOf}
 use Rattle.demands.specs.Made.{made, insertion, inserted, insertions}
@@ -55,6 +56,10 @@ batch =
       skips = 0 ∷ 0 ∷ 0 ∷ 0 ∷ 0 ∷ [];
     }
 
+-- the batch, a settling ten seconds after its data, and both keepalives polled
+unfoldable pub settled : List Call
+settled = calls ++ receiving batch ∷ settle 0 21000000000 ∷ event ∷ event ∷ []
+
 -- The premises hold, and the session's history, grants, verdicts, skips, keepalive, sends and missing report are these.
 pub record ExampleLaw : Type 0 where
   pub good : Good creation
@@ -71,6 +76,10 @@ pub record ExampleLaw : Type 0 where
   pub unpolled : polled (made (created creation) calls) ≡ []
   pub answered : step here event .answer ≡ Polled (SendKeepalive 9 4)
   pub polls : polled (made (created creation) (calls ++ event ∷ [])) ≡ polling 9 4 ∷ []
+  -- the settling wakes once, for the keepalive with counter 5
+  pub settles : step (step here (receiving batch) .world) (settle 0 21000000000) .answer ≡ Woke 1
+  pub settledGrants : wokenGrants (made (created creation) settled) ≡ granting 0 9 4 1 ∷ granting 0 9 5 1 ∷ []
+  pub settledPolls : polled (made (created creation) settled) ≡ polling 9 4 ∷ polling 9 5 ∷ []
   -- two counters can be sent, and are the next ones; no two can be once the session is older than 170 s
   pub canSend : CanSend creation calls 2 12000000000
   pub sent : valuesOf (sendAfter creation calls 2 12000000000) ≡ 9 ∷ 5 ∷ 2 ∷ []

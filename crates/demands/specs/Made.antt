@@ -6,9 +6,9 @@ use lib.Dec.{eqb}
 use lib.ListN.{length, getD}
 use Rattle.base.specs.Choice.{choose}
 use Rattle.tunnel.specs.Answer.{numberOf}
-use Rattle.tunnel.specs.declared.answer.Answer.the-variants.{No, Done, NoAnswer, Initiation, Response, Keepalive, Granted, Polled, Deadline, Report}
+use Rattle.tunnel.specs.declared.answer.Answer.the-variants.{No, Done, NoAnswer, Initiation, Response, Keepalive, Granted, Polled, Deadline, Report, Woke}
 use Rattle.tunnel.specs.declared.answer.Answer.{Answer}
-use Rattle.demands.specs.Calls.Call.{start, restart, send, receive, look, initiation, response, cookie, timeout, event, deadline, missing}
+use Rattle.demands.specs.Calls.Call.{start, restart, send, receive, look, initiation, response, cookie, timeout, settle, event, deadline, missing}
 use Rattle.demands.specs.Calls.{Call, World, Reply, step}
 use Rattle.sessions.specs.declared.range.Range.{Range}
 use Rattle.tunnel.specs.declared.event.Event.{Event}
@@ -40,6 +40,7 @@ module _ {A : Type 0} where
   caseBatch (response receiver peer outcome now) f x = x
   caseBatch (cookie receiver outcome now) f x = x
   caseBatch (timeout jitter now) f x = x
+  caseBatch (settle jitter now) f x = x
   caseBatch event f x = x
   caseBatch deadline f x = x
   caseBatch (missing index) f x = x
@@ -49,20 +50,21 @@ module _ {A : Type 0} where
   goodBatch id call reply f x =
       caseBatch call (λ named now counters. choose (eqb named id) (choose (eqb (numberOf (reply .answer)) 0) (f now counters) x) x) x
 
-  -- one value for a waking, one for every other call
-  unfoldable pub caseWaking : Call → A → A → A
-  caseWaking (timeout jitter now) y x = y
-  caseWaking (start now) y x = x
-  caseWaking (restart now) y x = x
-  caseWaking (send count now) y x = x
-  caseWaking (receive index id now counters kinds verdicts skips) y x = x
-  caseWaking (look index counter now) y x = x
-  caseWaking (initiation peer outcome now) y x = x
-  caseWaking (response receiver peer outcome now) y x = x
-  caseWaking (cookie receiver outcome now) y x = x
-  caseWaking event y x = x
-  caseWaking deadline y x = x
-  caseWaking (missing index) y x = x
+  -- one value for each waking's jitter and time, one for each settling's, one for every other call
+  unfoldable pub caseWaking : Call → ((jitter now : ℕ) → A) → ((jitter now : ℕ) → A) → A → A
+  caseWaking (timeout jitter now) f g x = f jitter now
+  caseWaking (settle jitter now) f g x = g jitter now
+  caseWaking (start now) f g x = x
+  caseWaking (restart now) f g x = x
+  caseWaking (send count now) f g x = x
+  caseWaking (receive index id now counters kinds verdicts skips) f g x = x
+  caseWaking (look index counter now) f g x = x
+  caseWaking (initiation peer outcome now) f g x = x
+  caseWaking (response receiver peer outcome now) f g x = x
+  caseWaking (cookie receiver outcome now) f g x = x
+  caseWaking event f g x = x
+  caseWaking deadline f g x = x
+  caseWaking (missing index) f g x = x
 
   -- one value for each response's peer and time, one for each incoming initiation's, one for every other call
   unfoldable pub caseMessage : Call → (ℕ → ℕ → A) → (ℕ → ℕ → A) → A → A
@@ -75,6 +77,7 @@ module _ {A : Type 0} where
   caseMessage (look index counter now) f g x = x
   caseMessage (cookie receiver outcome now) f g x = x
   caseMessage (timeout jitter now) f g x = x
+  caseMessage (settle jitter now) f g x = x
   caseMessage event f g x = x
   caseMessage deadline f g x = x
   caseMessage (missing index) f g x = x
@@ -92,6 +95,21 @@ module _ {A : Type 0} where
   caseAnswer (Response local peer) f g e x = x
   caseAnswer (Deadline time) f g e x = x
   caseAnswer (Report count) f g e x = x
+  caseAnswer (Woke wakings) f g e x = x
+
+-- the number of wakings that a settling answered, 0 for every other answer
+unfoldable pub wakingsOf : Answer → ℕ
+wakingsOf (Woke wakings) = wakings
+wakingsOf (No number) = 0
+wakingsOf Done = 0
+wakingsOf NoAnswer = 0
+wakingsOf (Initiation local) = 0
+wakingsOf (Response local peer) = 0
+wakingsOf (Keepalive peer counter) = 0
+wakingsOf (Granted range) = 0
+wakingsOf (Polled answered) = 0
+wakingsOf (Deadline time) = 0
+wakingsOf (Report count) = 0
 
 -- a handshake message that inserted a session: whether this tunnel had initiated, the peer's index given with it, and its time
 pub record Insertion : Type 0 where

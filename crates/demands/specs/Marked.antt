@@ -7,7 +7,7 @@ use Rattle.base.specs.Choice.{_and_}
 use Rattle.base.specs.Lists.{zeros}
 use Rattle.demands.specs.Calls.Call.{start, send, receive, initiation, response, timeout, event, deadline}
 use Rattle.demands.specs.Calls.{Call, step, after, Creation, created}
-use Rattle.tunnel.specs.Answer.Word.{turned, bare, none, init, resp, key, range, est, exp, at}
+use Rattle.tunnel.specs.Answer.Word.{turned, bare, none, init, resp, key, range, est, exp, at, woke}
 use Rattle.tunnel.specs.Answer.{Word, answerWord, valuesOf}
 use Rattle.tunnel.specs.declared.answer.Answer.{Answer}
 use Rattle.window.specs.History.{Window, verdict, given}
@@ -52,6 +52,7 @@ code est = 7
 code exp = 8
 code at = 9
 code Word.missing = 10
+code woke = 11
 
 -- an answer has this word and these values
 unfoldable pub says : Answer → Word → List ℕ → Bool

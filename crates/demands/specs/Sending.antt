@@ -2,7 +2,7 @@
 use mathlib.Core.Path.{_≡_}
 use mathlib.Core.Bool.{Bool, true, false}
 use mathlib.Core.List.{List, [], _∷_, _++_}
-use Prim.Native.Nat.{ℕ, _+_, _-_, _^_, _≤_, _<_}
+use Prim.Native.Nat.{ℕ, zero, suc, _+_, _-_, _^_, _≤_, _<_}
 use lib.Dec.{eqb}
 use lib.ListN.{length, getD}
 use Rattle.base.specs.Choice.{choose}
@@ -11,7 +11,7 @@ use Rattle.tunnel.specs.declared.answer.Answer.the-variants.{Granted}
 use Rattle.tunnel.specs.declared.answer.Answer.{Answer}
 use Rattle.demands.specs.Calls.Call.{send, timeout, event}
 use Rattle.demands.specs.Calls.{Call, World, Reply, step, after, Creation, created, Good, Expired}
-use Rattle.demands.specs.Made.{Made, made, caseWaking, caseAnswer, insertionBy, insertions, messageOf}
+use Rattle.demands.specs.Made.{Made, made, caseWaking, caseAnswer, wakingsOf, insertionBy, insertions, messageOf}
 use Rattle.demands.specs.Wakings.{ranNew, ranAfter, Current}
 use Rattle.tunnel.specs.Answer.{numberOf, valuesOf}
 use Rattle.tunnel.specs.Cases.{caseEvent}
@@ -59,10 +59,19 @@ keepaliveBy found put =
     caseEvent put [] (λ local. []) (λ peer counter. caseFound found [] (λ session. granting (session .id) peer counter 1 ∷ []))
     (λ started confirmed. []) []
 
--- the grant of a waking: the keepalive that it put last into the ring, of the session current just before
+-- the grant of a single waking: the keepalive that it puts last into the ring, of the session current just before
+unfoldable pub wakingGrant : World → (jitter now : ℕ) → List Grant
+wakingGrant w jitter now = keepaliveBy (currentIn w) (putBy w (timeout jitter now))
+
+-- the grants of so many single wakings made one after the other, each of the tunnel and the store just before it
+unfoldable pub wakingGrants : (wakings : ℕ) → World → (jitter now : ℕ) → List Grant
+wakingGrants zero w jitter now = []
+wakingGrants (suc wakings) w jitter now =
+    wakingGrant w jitter now ++ wakingGrants wakings (step w (timeout jitter now) .world) jitter now
+
+-- the grants of a waking and of a settling, which are those of so many single wakings as it answered
 unfoldable pub wokenGrant : World → Call → Reply → List Grant
-wokenGrant w call reply =
-    caseWaking call (keepaliveBy (currentIn w) (putLast (w .tunnel .control .events) (reply .world .tunnel .control .events))) []
+wokenGrant w call reply = caseWaking call (wakingGrant w) (wakingGrants (wakingsOf (reply .answer)) w) []
 
 -- the grant of an answer, after n insertions: a send's is the range it answered, of the session current just before; a response's is the
 -- counter it answered, of the session it inserted, whose id is the number of insertions before
@@ -74,7 +83,7 @@ answeredGrant n w answer =
     (λ event. [])
     []
 
--- the grants of wakings, in the order of the calls
+-- the grants of wakings and settlings, in the order of the calls
 unfoldable pub wokenGrants : List Made → List Grant
 wokenGrants [] = []
 wokenGrants (m ∷ later) = wokenGrant (m .before) (m .call) (m .reply) ++ wokenGrants later
@@ -162,10 +171,10 @@ pub record SendingLaw (c : Creation) (calls : List Call) : Type 0 where
   -- each is granted by a current session, to the peer given with its handshake message: those of a send
   pub sends : (count now : ℕ) (range : Range) → sendAfter c calls count now ≡ Granted range
       → (session : Session) × (currentIn (worldAfter c calls) ≡ Got session) × (messageOf (session .id) (madeBy c calls) .peer ≡ range .peer)
-  -- and that of a waking
+  -- and that of a waking, so also of each single waking of a settling, which comes after the calls and the wakings before it
   pub wakes : (jitter now peer counter : ℕ) → putBy (worldAfter c calls) (timeout jitter now) ≡ SendKeepalive peer counter
       → (session : Session) × (currentIn (worldAfter c calls) ≡ Got session) × (messageOf (session .id) (madeBy c calls) .peer ≡ peer)
-  -- the keepalives that event calls answered are those that wakings granted, in order, none twice, some overwritten or still queued
+  -- the keepalives that event calls answered are those that wakings and settlings granted, in order, none twice, some overwritten or still queued
   pub polls : TakenFrom (polled (madeBy c calls)) (wokenGrants (madeBy c calls))
   -- a send that a session can meet answers the peer of its handshake message, the counters granted so far as the first, and the count
   pub met : (count now : ℕ) (can : CanSend c calls count now) → (numberOf (sendAfter c calls count now) ≡ 0)

@@ -13,11 +13,12 @@ use Rattle.tunnel.specs.HandleHandshake.{handleHandshakeInitiation, handleHands
 use Rattle.tunnel.specs.Encapsulate as encapsulate
 use Rattle.tunnel.specs.Decapsulate as decapsulate
 use Rattle.tunnel.specs.HandleTimeout.{handleTimeout}
+use Rattle.tunnel.specs.Settle as settling
 use Rattle.tunnel.specs.declared.answer.Answer.the-variants.{Deadline}
 use Rattle.tunnel.specs.declared.answer.Answer.{Answer}
 use Rattle.tunnel.specs.declared.control.Control.{Control}
 use Rattle.tunnel.specs.declared.control.Out.{Out}
-use Rattle.demands.specs.Calls.Call.{start, restart, send, receive, look, initiation, response, cookie, timeout, event, deadline, missing}
+use Rattle.demands.specs.Calls.Call.{start, restart, send, receive, look, initiation, response, cookie, timeout, settle, event, deadline, missing}
 use Rattle.demands.specs.Calls.{Call, World, Reply, step, after, Creation, created, Good, Expired}
 use Rattle.sessions.specs.Session.{timeLimit}
 use Rattle.sessions.specs.Sessions.{slotAt, currentOf}
@@ -59,7 +60,8 @@ took r bad now out store =
     (choose (ltb now (r .clock)) r
     (record { control = out .control; store = store; clock = choose (out .raises) now (r .clock) })))
 
--- the Rust after a call; it has no missing report
+-- the Rust after a call; it has no missing report; of a settling it gets the single wakings of the plain repetition, and the time also where that
+-- wakes nothing
 unfoldable pub ran : Ran → Call → Ran
 ran r (start now) = took r false now (startHandshake (r .control) now) (r .store)
 ran r (restart now) = took r false now (restartHandshake (r .control) now) (r .store)
@@ -83,6 +85,9 @@ ran r (cookie receiver outcome now) =
 ran r (timeout jitter now) =
     took r (badJitter jitter (r .store)) now (handleTimeout (r .control) (r .store) jitter now .out)
     (handleTimeout (r .control) (r .store) jitter now .store)
+ran r (settle jitter now) =
+    took r (badJitter jitter (r .store)) now (settling.settle (r .control) (r .store) jitter now .out)
+    (settling.settle (r .control) (r .store) jitter now .store)
 ran r event = record { control = pollEvent (r .control) .control; store = r .store; clock = r .clock }
 ran r deadline = r
 ran r (missing index) = r
@@ -115,6 +120,7 @@ timeOf (initiation peer outcome now) = At now
 timeOf (response receiver peer outcome now) = At now
 timeOf (cookie receiver outcome now) = At now
 timeOf (timeout jitter now) = At now
+timeOf (settle jitter now) = At now
 timeOf event = Never
 timeOf deadline = Never
 timeOf (missing index) = Never

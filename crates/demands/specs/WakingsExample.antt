@@ -5,7 +5,7 @@ use mathlib.Core.List.{List, [], _∷_, _++_}
 use Prim.Native.Nat.{ℕ}
 use lib.ListN.{replicate}
 use Rattle.tunnel.specs.Answer.{numberOf, valuesOf}
-use Rattle.demands.specs.Calls.Call.{start, send, response, timeout, event, deadline}
+use Rattle.demands.specs.Calls.Call.{start, send, response, timeout, settle, event, deadline}
 use Rattle.demands.specs.Calls.{World, step, after, Creation, created, Expired}
 use Rattle.demands.specs.Wakings.{Step, shared, extra, plainCalls, wokenCalls, ranNew, ComesEarly, CurrentOrUnset, InOrder, Admissible, Agree, CreatedAlike}
 
@@ -21,9 +21,9 @@ established = shared (start 0) ∷ shared (response 257 9 0 1000000) ∷ shared 
 unfoldable pub used : List Step
 used = established ++ extra 0 130000000000 ∷ extra 0 129000000000 ∷ shared deadline ∷ shared (send 1 131000000000) ∷ []
 
--- the session lost by 600 s, and with it the connection
+-- a settling at 131 s; the session lost by 600 s, and with it the connection
 unfoldable pub lost : List Step
-lost = used ++ shared deadline ∷ shared (timeout 0 600000000000) ∷ shared event ∷ []
+lost = used ++ shared deadline ∷ shared (settle 0 131000000000) ∷ shared (timeout 0 600000000000) ∷ shared event ∷ []
 
 -- a waking at 700 s
 unfoldable pub example : List Step
@@ -47,6 +47,8 @@ pub record ExtraWakingsExample : Type 0 where
   -- at 131 s the two tunnels answer deadlines that differ and have both come
   pub plainly : valuesOf (step (plainAfter used) deadline .answer) ≡ 120001000000 ∷ []
   pub wakingly : valuesOf (step (wokenAfter used) deadline .answer) ≡ 130000000000 ∷ []
+  -- the settling at 131 s wakes twice: a new handshake is scheduled, and its initiation sent
+  pub settles : valuesOf (step (wokenAfter used) (settle 0 131000000000) .answer) ≡ 2 ∷ []
 
 -- a waking just at the deadline, 540 s after the creation
 unfoldable pub late : List Step

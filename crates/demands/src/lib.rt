@@ -85,7 +85,8 @@ pub fn last_heard_law()
     ensures { λ r. ⌜ LastHeard ⌝ }
 {}
 
-// There are calls of which demand 2's statements speak: a live session, a commit, a replay, a jump that clears the window, a keepalive.
+// There are calls of which demand 2's statements speak: a live session, a commit, a replay, a jump that clears the window, and keepalives of a
+// waking and of a settling.
 pub fn example_law()
     ensures { λ r. ⌜ ExampleLaw ⌝ }
 {}
@@ -95,7 +96,7 @@ pub fn extra_wakings_law()
     ensures { λ r. ⌜ ExtraWakingsLaw ⌝ }
 {}
 
-// There is a list that meets the conditions, with wakings that take effect and deadlines that differ and have both come.
+// There is a list that meets the conditions, with wakings that take effect, deadlines that differ and have both come, and a settling.
 pub fn extra_wakings_example()
     ensures { λ r. ⌜ ExtraWakingsExample ⌝ }
 {}

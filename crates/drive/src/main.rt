@@ -103,7 +103,7 @@ fn answer(
 }
 
 // Puts the answer of a line's call.
-fn settle(
+fn answer_call(
     progress: Progress,
     answered: Answered,
     asked: Line,
@@ -188,7 +188,7 @@ fn end_line(
         &mut verdicts,
         list,
     );
-    settle(progress, answered, asked, &verdicts, list, bytes, out)
+    answer_call(progress, answered, asked, &verdicts, list, bytes, out)
 }
 
 // The console with the bytes up to the next newline.

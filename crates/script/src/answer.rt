@@ -34,6 +34,7 @@ enum Words {
     Expired,
     Deadline,
     Missing,
+    Woke,
 }
 
 // An answer: its words, and how many of the three numbers follow them.
@@ -125,6 +126,7 @@ fn reply_of_answer(answer: Answer) -> Reply {
         Answer::Polled(event) => reply_of_event(event),
         Answer::Deadline(deadline) => reply_of_deadline(deadline),
         Answer::Report(missing) => words_and_one(Words::Missing, missing),
+        Answer::Woke(wakings) => words_and_one(Words::Woke, wakings as u64),
     }
 }
 
@@ -142,6 +144,7 @@ fn put_words(out: &mut [u8], at: usize, words: Words) -> usize {
         Words::Expired => put_text(out, at, b"ok exp"),
         Words::Deadline => put_text(out, at, b"ok at"),
         Words::Missing => put_text(out, at, b"ok missing"),
+        Words::Woke => put_text(out, at, b"ok woke"),
     }
 }
 

@@ -64,6 +64,7 @@ fn call_session(tunnel: Tunnel, call: SessionCall, store: &mut [u64]) -> Answere
             time,
         } => return tunnel.look(store, index, counter, time),
         SessionCall::Wake { jitter, time } => return tunnel.handle_timeout(store, jitter, time),
+        SessionCall::Settle { jitter, time } => return tunnel.settle(store, jitter, time),
         SessionCall::Event => return tunnel.poll_event(),
         SessionCall::Next => return tunnel.poll_timeout(),
         SessionCall::Missing { index } => return tunnel.missing(store, index),

@@ -46,6 +46,7 @@ pub enum SessionCall {
     Send { count: u64, time: u64 },
     Look { index: u32, counter: u64, time: u64 },
     Wake { jitter: u64, time: u64 },
+    Settle { jitter: u64, time: u64 },
     Event,
     Next,
     Missing { index: u32 },
@@ -157,6 +158,10 @@ fn line_of(name: Name, n: Numbers, held: usize) -> Line {
             time: n.third,
         }),
         Name::Wake => Line::Session(SessionCall::Wake {
+            jitter: n.first,
+            time: n.second,
+        }),
+        Name::Settle => Line::Session(SessionCall::Settle {
             jitter: n.first,
             time: n.second,
         }),

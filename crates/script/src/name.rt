@@ -14,6 +14,7 @@ pub enum Name {
     Recv,
     Look,
     Wake,
+    Settle,
     Event,
     Next,
     Missing,
@@ -124,6 +125,9 @@ pub fn call_name(word: &[u8]) -> Name {
     }
     if same(word, b"wake") {
         return Name::Wake;
+    }
+    if same(word, b"settle") {
+        return Name::Settle;
     }
     if same(word, b"new") {
         return Name::New;

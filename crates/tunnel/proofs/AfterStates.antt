@@ -34,6 +34,7 @@ use Rattle.tunnel.specs.HandleHandshake.{establish, complete, handleHand
 use Rattle.tunnel.specs.HandleTimeout.{handleTimeout}
 use Rattle.tunnel.specs.Handshake.{receiveHandshakeResponse, receiveCookieReply}
 use Rattle.tunnel.specs.InitiateHandshake.{restartHandshake, startHandshake}
+use Rattle.tunnel.specs.Settle.{settle}
 use Rattle.tunnel.specs.Tunnel.{newTunnel, gate, refused, letThrough, Called, callNew, callEvent}
 use Rattle.tunnel.specs.declared.answer.Answer.the-variants.{Done, NoAnswer}
 use Rattle.tunnel.specs.declared.answer.Answer.{Answer}
@@ -98,6 +99,11 @@ module _ (c : Control) where
   timeout-ways store jitter now =
       of-choice (TurnWays c store) _ _ _ (doing-ways c c store store NoAnswer refl)
       (record { out = record { down = λ d. absurd (d refl); up = λ e. refl }; words = λ d. absurd (d refl) })
+
+  -- settling
+  pub settle-ways : (store : List ℕ) (jitter now : ℕ) → TurnWays c store (settle c store jitter now)
+  unfolding settle numberOf
+  settle-ways store jitter now = record { out = record { down = λ d. absurd (d refl); up = λ e. refl }; words = λ d. absurd (d refl) }
 
   -- a batch
   pub batch-ways : (store : List ℕ) (index id now : ℕ) (counters kinds verdicts skips : List ℕ)

@@ -25,7 +25,8 @@ use Rattle.tunnel.proofs.BadArguments.{jittered}
 use Rattle.tunnel.proofs.Numbers.{Living, is-living}
 use Rattle.tunnel.proofs.Opened.{initiation-opened, response-opened, cookie-stored}
 use Rattle.tunnel.proofs.Steps.{of-expire}
-use Rattle.tunnel.proofs.Wakings.{WakingKeeps, of-wake}
+use Rattle.tunnel.proofs.Stores.{timeout-store}
+use Rattle.tunnel.proofs.Wakings.{WakingKeeps, of-wake, of-repeat}
 use Rattle.tunnel.specs.AfterStates.{NoneCurrent, ExpiredLaw}
 use Rattle.tunnel.specs.Arguments.{openingOutcome, initiationOutcome}
 use Rattle.tunnel.specs.Cases.{known-completed, known-cookie, of-datagram}
@@ -34,9 +35,10 @@ use Rattle.tunnel.specs.Decapsulate.{confirmFirstSession, accept, commit
 use Rattle.tunnel.specs.Encapsulate.{beginEncapsulate, finishEncapsulate, grant, encryptKeepalive, send}
 use Rattle.tunnel.specs.HandleHandshake.{responding, respond, handleHandshakeInitiation, confirming, establish, complete, handleHandshakeResponse, handleCookieReply}
 use Rattle.tunnel.specs.HandleTimeout.{clearAll, expireControl, scheduling, queueKeepalive, sendKeepalive, keepaliveIfDue, sendScheduled, handleTimeout}
+use Rattle.tunnel.specs.Settle.{settle}
 use Rattle.tunnel.specs.Handshake.{withStates, clearCookie, expireCookie, appendMac1AndMac2, initiateHandshake, receiveHandshakeInitialization, receiveHandshakeResponse, receiveCookieReply}
 use Rattle.tunnel.specs.InitiateHandshake.{initiating, initiate, restartHandshake, startHandshake}
-use Rattle.tunnel.specs.Tunnel.{newTunnel, gate, refused, letThrough, timed, timeless, Called, timedTurn, timedBatch, callNew, callStart, callRestart, callSend, callReceive, callLook, callInitiation, callResponse, callCookie, callTimeout, callEvent, callDeadline, callMissing}
+use Rattle.tunnel.specs.Tunnel.{newTunnel, gate, refused, letThrough, timed, timeless, Called, timedTurn, timedBatch, callNew, callStart, callRestart, callSend, callReceive, callLook, callInitiation, callResponse, callCookie, callTimeout, callSettle, callEvent, callDeadline, callMissing}
 use Rattle.tunnel.specs.declared.control.Control.{Control}
 use Rattle.tunnel.specs.declared.control.Out.{Out}
 use Rattle.tunnel.specs.declared.encapsulate.Encrypted.{Encrypted}
@@ -233,6 +235,13 @@ timeout-ended c store jitter now h long =
     let sent : Waking (sendScheduled c now) store = record { long = long; unselected = λ x. absurd (sends-living c now x) } in
     none-current _ (of-wake Waking jitter now (waking-ends jitter now) c store w sent .unselected f))
 
+-- and settling
+settle-ended : (c : Control) (store : List ℕ) (jitter now : ℕ) → Ended c → length store ≡ 1024 → EndedOut (settle c store jitter now .out)
+unfolding settle
+settle-ended c store jitter now h long =
+    of-repeat (λ (x : Control) (words : List ℕ). Ended x × (length words ≡ 1024)) jitter now
+    (λ x words p. (timeout-ended x words jitter now (p .0) (p .1), timeout-store x words (p .1) jitter now)) _ c store (h, long) .0
+
 -- a creation
 new-ended : (index keepalive now : ℕ) → NoneCurrent (newTunnel index keepalive now)
 unfolding newTunnel newControl newSessions currentOf caseSelected
@@ -251,7 +260,7 @@ module _ (t : Tunnel) (h : NoneCurrent t) where
 
 -- each call
 pub stays-ended : (t : Tunnel) (store : List ℕ) → NoneCurrent t → ExpiredLaw t store
-unfolding callNew callStart callRestart callSend callReceive callLook callInitiation callResponse callCookie callTimeout callEvent callDeadline callMissing timedTurn timedBatch refused pollEvent
+unfolding callNew callStart callRestart callSend callReceive callLook callInitiation callResponse callCookie callTimeout callSettle callEvent callDeadline callMissing timedTurn timedBatch refused pollEvent
 stays-ended t store h =
     record {
       new = λ index keepalive now. of-choice (λ (y : Called). NoneCurrent (y .answered .tunnel)) _ _ _ (new-ended index keepalive now) (new-ended 0 0 0);
@@ -266,6 +275,7 @@ stays-ended t store h =
           timed-ended t h _ now _ (λ b. response-ended (t .control) store receiver peer (openingOutcome outcome) now h);
       cookie = λ receiver outcome now. timed-ended t h _ now _ (λ b. cookie-ended (t .control) receiver (openingOutcome outcome) now h);
       timeout = λ jitter now. timed-ended t h _ now _ (λ b. timeout-ended (t .control) store jitter now h (jittered jitter store .to b .0));
+      settle = λ jitter now. timed-ended t h _ now _ (λ b. settle-ended (t .control) store jitter now h (jittered jitter store .to b .0));
       event = timeless-ended t h _ _ h;
       deadline = timeless-ended t h _ _ h;
       missing = λ index. timeless-ended t h _ _ (missing-ended (t .control) store index h);

@@ -30,8 +30,9 @@ use Rattle.tunnel.specs.Tunnel.{refused, letThrough, timed, timeless}
 use Rattle.tunnel.specs.declared.tunnel.Answered.{Answered}
 use Rattle.tunnel.specs.declared.tunnel.Tunnel.{Tunnel}
 use Rattle.tunnel.proofs.Steps.{of-expire}
-use Rattle.tunnel.proofs.Wakings.{WakingKeeps, of-unsent}
+use Rattle.tunnel.proofs.Wakings.{WakingKeeps, of-unsent, of-repeat}
 use Rattle.tunnel.specs.HandleTimeout.{clearAll, expireControl, scheduling, queueKeepalive, passiveTimers, keepaliveTimers, sendKeepalive, keepaliveIfDue, sendScheduled, handleDue, handleTimeout}
+use Rattle.tunnel.specs.Settle.{settle}
 
 -- the persistent keepalive's setting, in timers, in a control and in what holds one
 module _ (interval : Interval) where
@@ -212,6 +213,11 @@ module _ (interval : Interval) (c : Control) (store : List ℕ) (jitter now : �
   pub on-timeout : SetTurn interval (handleTimeout c store jitter now)
   unfolding handleTimeout done
   on-timeout = of-choice (SetTurn interval) _ _ _ h (on-due (dueBy (scheduledHandshake c) now) refl)
+
+pub on-settle : (interval : Interval) (c : Control) (store : List ℕ) (jitter now : ℕ) → Set interval c → SetTurn interval (settle c store jitter now)
+unfolding settle
+on-settle interval c store jitter now h =
+    of-repeat (λ (x : Control) (words : List ℕ). Set interval x) jitter now (λ x words. on-timeout interval x words jitter now) _ c store h
 
 -- the frames: what holds of the control before a call and of what its operation hands back holds of the control after it
 module _ (P : Control → Type 0) (t : Tunnel) (h : P (t .control)) where

@@ -8,7 +8,7 @@ use lib.ListN.{length}
 use Rattle.sessions.specs.Session.{newSession, withId}
 use Rattle.sessions.specs.Sessions.{currentOf}
 use Rattle.sessions.specs.declared.sessions.Found.the-variants.{Got}
-use Rattle.tunnel.proofs.AfterStates.{restart-ways, start-ways, cookie-ways, timeout-ways, batch-ways, response-ways, response-up, look-same, missing-same, event-down, sound-passed, new-down, new-up}
+use Rattle.tunnel.proofs.AfterStates.{restart-ways, start-ways, cookie-ways, timeout-ways, settle-ways, batch-ways, response-ways, response-up, look-same, missing-same, event-down, sound-passed, new-down, new-up}
 use Rattle.tunnel.proofs.Deadline.{deadline-answer}
 use Rattle.tunnel.proofs.Exceptions.{send-ways, send-down, send-marked, incoming-up, incoming-store, incoming-down, incoming-failed}
 use Rattle.tunnel.proofs.Ended.{stays-ended}
@@ -20,11 +20,13 @@ use Rattle.tunnel.proofs.Quiet.{wake-quiet}
 use Rattle.tunnel.proofs.Responses.{keepalive-sent, confirming-sessions, response-current, response-good}
 use Rattle.tunnel.proofs.Ahead.{new-gives, call-start-gives, call-restart-gives, initiation-gives, initiation-failed, initiation-refused, waking-gives, waking-unsent}
 use Rattle.tunnel.proofs.AheadExample.{computed}
-use Rattle.tunnel.proofs.Lasting.{Set, Last, on-start, on-restart, on-send, on-receive, on-look, on-incoming, on-response, on-cookie, on-timeout, on-missing, on-timed, on-timeless}
+use Rattle.tunnel.proofs.Lasting.{Set, Last, on-start, on-restart, on-send, on-receive, on-look, on-incoming, on-response, on-cookie, on-timeout, on-settle, on-missing, on-timed, on-timeless}
+use Rattle.tunnel.proofs.SettleExample.{settlings}
+use Rattle.tunnel.proofs.Settled.{settle-comes, settle-only}
 use Rattle.tunnel.proofs.SoundCalls.{its-control, good-made, timed-sound, good-store, made-sound, timeless-sound}
 use Rattle.tunnel.proofs.SoundSteps.{SoundControl, sound-later}
-use Rattle.tunnel.proofs.Still.{restart-expired, start-expired, start-again, timeout-nothing, empty-nothing, deadline-nothing, event-answer, event-queue, event-rest}
-use Rattle.tunnel.proofs.Stores.{kept-whole, batch-store, initiation-store, response-store, timeout-store}
+use Rattle.tunnel.proofs.Still.{restart-expired, start-expired, start-again, timeout-nothing, settle-nothing, empty-nothing, deadline-nothing, event-answer, event-queue, event-rest}
+use Rattle.tunnel.proofs.Stores.{kept-whole, batch-store, initiation-store, response-store, timeout-store, settle-store}
 use Rattle.tunnel.proofs.TurnedDown.{TurnWays, timed-same, timed-down, turn-down, batch-down, timed-up, timed-nothing, timeless-same}
 use Rattle.tunnel.specs.AfterStates.{AfterStates, GreatestLaw, StillLaw, EventLaw, NoneCurrent, ExpiredLaw}
 use Rattle.tunnel.specs.Deadline.{DeadlineLaw}
@@ -35,6 +37,7 @@ use Rattle.tunnel.specs.Laws.{GateLaw, settingOf, SettingLaw, establishi
 use Rattle.tunnel.specs.Numbers.{NumbersLaw}
 use Rattle.tunnel.specs.Quiet.{QuietLaw}
 use Rattle.tunnel.specs.RingBuffer.{QueueOfNewest}
+use Rattle.tunnel.specs.Settled.{SettleLaw, SettleExample}
 use Rattle.tunnel.specs.Sound.{Sound, SoundLaw, StoreLaw, CreatedLaw}
 use Rattle.tunnel.specs.declared.control.Control.{Control}
 use Rattle.tunnel.specs.declared.handshake.Handshake.{Handshake}
@@ -50,8 +53,8 @@ use Rattle.base.proofs.Zeros.{length-zeros}
 use Rattle.sessions.specs.Store.{whole}
 use Rattle.tunnel.specs.Arguments.{openingOutcome, initiationOutcome, badOutcome, creationNumber}
 use Rattle.tunnel.specs.HandleHandshake.{handleHandshakeResponse}
-use Rattle.tunnel.specs.Tunnel.{gate, refused, Called, timedTurn, timedBatch, callNew, callStart, callRestart, callSend, callReceive, callLook, callInitiation, callResponse, callCookie, callTimeout, callEvent, callDeadline, callMissing}
-use Rattle.tunnel.proofs.SoundWaking.{timeout-sound}
+use Rattle.tunnel.specs.Tunnel.{gate, refused, Called, timedTurn, timedBatch, callNew, callStart, callRestart, callSend, callReceive, callLook, callInitiation, callResponse, callCookie, callTimeout, callSettle, callEvent, callDeadline, callMissing}
+use Rattle.tunnel.proofs.SoundWaking.{timeout-sound, settle-sound}
 use Rattle.sessions.specs.Batch.{receive}
 use Rattle.tunnel.specs.Encapsulate.{send}
 
@@ -69,7 +72,7 @@ gate-law t bad now = record { limited = gate-now t bad now; good = gate-good t b
 
 -- sound tunnels stay sound
 pub sound-law : (t : Tunnel) → Sound t → SoundLaw t
-unfolding callStart callRestart callSend callReceive callLook callInitiation callResponse callCookie callTimeout callEvent callDeadline callMissing timedTurn timedBatch
+unfolding callStart callRestart callSend callReceive callLook callInitiation callResponse callCookie callTimeout callSettle callEvent callDeadline callMissing timedTurn timedBatch
 sound-law t s =
     let w : SoundControl (t .control) (t .greatest) = its-control t s in
     record {
@@ -87,6 +90,8 @@ sound-law t s =
       cookie = λ receiver outcome now. timed-sound t s _ now _ (λ b l. cookie-sound (t .greatest) now l (t .control) w receiver (openingOutcome outcome));
       timeout = λ store jitter now.
           timed-sound t s _ now _ (λ b l. timeout-sound (t .greatest) now l (t .control) w store jitter (small-jitter jitter store _ refl b));
+      settle = λ store jitter now.
+          timed-sound t s _ now _ (λ b l. settle-sound (t .greatest) now l (t .control) w store jitter (small-jitter jitter store _ refl b));
       event = timeless-sound t s _ _ (event-sound (t .greatest) (t .control) w);
       deadline = timeless-sound t s _ _ (unraising (t .greatest) (t .control) _ w);
       missing = λ store index. timeless-sound t s _ _ (missing-sound (t .greatest) (t .control) w store index);
@@ -105,18 +110,19 @@ created-law store index keepalive now =
 
 -- stores keep their length
 pub store-law : (t : Tunnel) (store : List ℕ) → length store ≡ 1024 → StoreLaw t store
-unfolding callReceive callInitiation callResponse callTimeout timedTurn timedBatch
+unfolding callReceive callInitiation callResponse callTimeout callSettle timedTurn timedBatch
 store-law t store l =
     record {
       receive = λ index id now counters kinds verdicts skips. kept-whole t _ now store _ l (batch-store (t .control) store l index id now counters kinds verdicts skips);
       initiation = λ peer outcome now. kept-whole t _ now store _ l (initiation-store (t .control) store peer _ now l);
       response = λ receiver peer outcome now. kept-whole t _ now store _ l (response-store (t .control) store l receiver peer _ now);
       timeout = λ jitter now. kept-whole t _ now store _ l (timeout-store (t .control) store l jitter now);
+      settle = λ jitter now. kept-whole t _ now store _ l (settle-store (t .control) store l jitter now);
     }
 
 -- the keepalive's setting stays
 pub setting-law : (t : Tunnel) (store : List ℕ) → SettingLaw t store
-unfolding callStart callRestart callSend callReceive callLook callInitiation callResponse callCookie callTimeout callEvent callDeadline callMissing timedTurn timedBatch pollEvent
+unfolding callStart callRestart callSend callReceive callLook callInitiation callResponse callCookie callTimeout callSettle callEvent callDeadline callMissing timedTurn timedBatch pollEvent
 setting-law t store =
     let Same : Control → Type 0 = Set (settingOf t) in
     let l : ℕ = t .control .sessions .«last_index» in
@@ -131,6 +137,7 @@ setting-law t store =
       response = λ receiver peer outcome now. on-timed Same t refl _ now _ (on-response _ l _ store receiver peer _ now (refl, refl) .0);
       cookie = λ receiver outcome now. on-timed Same t refl _ now _ (on-cookie _ l _ receiver _ now (refl, refl) .0);
       timeout = λ jitter now. on-timed Same t refl _ now _ (on-timeout _ _ store jitter now refl);
+      settle = λ jitter now. on-timed Same t refl _ now _ (on-settle _ _ store jitter now refl);
       event = on-timeless Same t refl _ _ refl;
       deadline = on-timeless Same t refl _ _ refl;
       missing = λ index. on-timeless Same t refl _ _ (on-missing _ l _ store index (refl, refl) .0);
@@ -212,7 +219,7 @@ module _ (t : Tunnel) (store : List ℕ) (eight : length (t .control .sessions .
       (good-store (openingOutcome outcome) store (gate-good t _ now z))
 
   pub after-states-law : AfterStates t store
-  unfolding callStart callRestart callReceive callLook callResponse callCookie callTimeout callDeadline callMissing
+  unfolding callStart callRestart callReceive callLook callResponse callCookie callTimeout callSettle callDeadline callMissing
   after-states-law =
       record {
         start = λ now. timed-down t _ now _ (λ z. start-ways (t .control) now);
@@ -227,6 +234,7 @@ module _ (t : Tunnel) (store : List ℕ) (eight : length (t .control .sessions .
         response = λ receiver peer outcome now. turn-down t _ now store _ (passed-response receiver peer outcome now);
         cookie = λ receiver outcome now. timed-down t _ now _ (λ z. cookie-ways (t .control) receiver (openingOutcome outcome) now);
         timeout = λ jitter now. turn-down t _ now store _ (λ z. timeout-ways (t .control) store jitter now);
+        settle = λ jitter now. turn-down t _ now store _ (λ z. settle-ways (t .control) store jitter now);
         event = event-down t;
         look = λ index counter now. timed-same t _ now _ (look-same (t .control) store index counter now);
         deadline = timeless-same t _ _ (record { control = refl; raises = refl; updates = refl });
@@ -236,7 +244,7 @@ module _ (t : Tunnel) (store : List ℕ) (eight : length (t .control .sessions .
 
 -- what the calls that are not turned down leave
 pub greatest-law : (t : Tunnel) (store : List ℕ) → GreatestLaw t store
-unfolding callStart callRestart callSend callReceive callResponse callCookie callTimeout timedTurn timedBatch
+unfolding callStart callRestart callSend callReceive callResponse callCookie callTimeout callSettle timedTurn timedBatch
 greatest-law t store =
     record {
       new = λ index keepalive now. new-up store index keepalive now;
@@ -248,6 +256,7 @@ greatest-law t store =
       response = λ receiver peer outcome now. timed-up t _ now _ (λ z. response-up (t .control) store receiver peer (openingOutcome outcome) now);
       cookie = λ receiver outcome now. timed-up t _ now _ (λ z. cookie-ways (t .control) receiver (openingOutcome outcome) now .up);
       timeout = λ jitter now. timed-up t _ now _ (λ z. timeout-ways (t .control) store jitter now .out .up);
+      settle = λ jitter now. timed-up t _ now _ (λ z. settle-ways (t .control) store jitter now .out .up);
     }
 
 -- what changes nothing but the greatest time
@@ -257,6 +266,7 @@ still-law t store =
     record {
       batch = λ index id now. empty-nothing t store index id now;
       timeout = λ jitter now. timeout-nothing t store jitter now;
+      settle = λ jitter now. settle-nothing t store jitter now;
       start = λ now x. timed-nothing t _ now _ (start-expired (t .control) now x);
       restart = λ now x. timed-nothing t _ now _ (restart-expired (t .control) now x);
       again = λ now local sent x. timed-nothing t _ now _ (start-again (t .control) now local sent x);
@@ -266,3 +276,13 @@ still-law t store =
 -- the event call
 pub event-law : (t : Tunnel) → length (t .control .events .slots) ≡ 16 → EventLaw t
 event-law t long = record { answer = event-answer t long; queue = event-queue t long; rest = event-rest t }
+
+-- settling comes to the plain repetition
+pub settle-law : (t : Tunnel) (store : List ℕ) (jitter now : ℕ) → length (t .control .sessions .slots) ≡ 8 → length (t .control .events .slots) ≡ 16
+    → SettleLaw t store jitter now
+settle-law t store jitter now eight sixteen =
+    record { ends = settle-comes t store jitter now eight sixteen; only = settle-only t store jitter now eight sixteen }
+
+-- there are settlings of every count
+pub settle-example : SettleExample
+settle-example = settlings

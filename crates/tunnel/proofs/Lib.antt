@@ -21,7 +21,11 @@ pub mod PartWays
 pub mod Queue
 pub mod QueueLoop
 pub mod Quiet
+pub mod Repeated
 pub mod Responses
+pub mod SettleExample
+pub mod Settled
+pub mod Settling
 pub mod SoundCalls
 pub mod SoundOperations
 pub mod SoundSending

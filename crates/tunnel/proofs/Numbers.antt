@@ -30,10 +30,11 @@ use Rattle.tunnel.specs.Decapsulate.{accept, commitDecapsulate, beginDec
 use Rattle.tunnel.specs.Encapsulate.{finishEncapsulate, grant, send}
 use Rattle.tunnel.specs.HandleHandshake.{responding, respond, handleHandshakeInitiation, establish, complete, handleHandshakeResponse, handleCookieReply}
 use Rattle.tunnel.specs.HandleTimeout.{handleTimeout}
+use Rattle.tunnel.specs.Settle.{settle}
 use Rattle.tunnel.specs.Handshake.{isExpired, receiveHandshakeInitialization, receiveHandshakeResponse, receiveCookieReply}
 use Rattle.tunnel.specs.InitiateHandshake.{restartHandshake, startHandshake}
 use Rattle.tunnel.specs.Numbers.{Always, IsStore, OpeningNamed, InitiationNamed, NumbersLaw}
-use Rattle.tunnel.specs.Tunnel.{timedTurn, timedBatch, callStart, callRestart, callSend, callReceive, callLook, callInitiation, callResponse, callCookie, callTimeout, callEvent, callDeadline, callMissing}
+use Rattle.tunnel.specs.Tunnel.{timedTurn, timedBatch, callStart, callRestart, callSend, callReceive, callLook, callInitiation, callResponse, callCookie, callTimeout, callSettle, callEvent, callDeadline, callMissing}
 use Rattle.tunnel.specs.declared.answer.Answer.the-variants.{Done, Response, Deadline, Report}
 use Rattle.tunnel.specs.declared.control.Control.{Control}
 use Rattle.tunnel.specs.declared.control.Out.{Out}
@@ -226,10 +227,14 @@ module _ (c : Control) (outcome now : ℕ) (o : Other outcome) where
       Storing : Cookie → Type 0
       Storing x = OtherOut (caseCookie x (λ number. refuse c number) (λ handshake. done (withHandshake c handshake) Done))
 
--- the waking, the oldest event and the deadline
+-- the waking, settling, the oldest event and the deadline
 timeout-beneath : (c : Control) (store : List ℕ) (jitter now : ℕ) → Beneath (numberIn (handleTimeout c store jitter now .out)) Always
 unfolding handleTimeout done numberOf
 timeout-beneath c store jitter now = beneath-always _ (of-choice OtherTurn _ _ _ refl refl)
+
+settle-beneath : (c : Control) (store : List ℕ) (jitter now : ℕ) → Beneath (numberIn (settle c store jitter now .out)) Always
+unfolding settle numberOf
+settle-beneath c store jitter now = beneath-always 0 refl
 
 event-beneath : (c : Control) → Beneath (numberIn (pollEvent c)) Always
 unfolding pollEvent numberOf
@@ -241,7 +246,7 @@ deadline-beneath time = beneath-always 0 refl
 
 -- the number that turns each call down
 pub first-numbers : (t : Tunnel) (store : List ℕ) → NumbersLaw t store
-unfolding callStart callRestart callSend callReceive callLook callInitiation callResponse callCookie callTimeout callEvent callDeadline callMissing timedTurn timedBatch
+unfolding callStart callRestart callSend callReceive callLook callInitiation callResponse callCookie callTimeout callSettle callEvent callDeadline callMissing timedTurn timedBatch
 first-numbers t store =
     record {
       new = new-first store;
@@ -261,6 +266,7 @@ first-numbers t store =
           timed-first t _ _ _ _ (opening-named outcome)
           (λ b. cookie-beneath (t .control) _ now (opening-other outcome (opening-named outcome .to b)) receiver) now;
       timeout = λ jitter now. timed-first t _ _ _ _ (jittered jitter store) (λ b. timeout-beneath (t .control) store jitter now) now;
+      settle = λ jitter now. timed-first t _ _ _ _ (jittered jitter store) (λ b. settle-beneath (t .control) store jitter now) now;
       event = timeless-first t _ _ _ _ never-fails (λ b. event-beneath (t .control));
       deadline = timeless-first t _ _ _ _ never-fails (λ b. deadline-beneath _);
       missing = λ index. timeless-first t _ _ _ _ (stored store) (λ b. missing-beneath (t .control) store index (stored store .to b));

@@ -38,16 +38,16 @@ module _ {A : Type 0} where
   otherwise t x y v p q = sym (no-flag t v x y p (sym q))
 
 -- where the earlier of two deadlines has not come, neither has come
-record Neither (a b : Time) (now : ℕ) : Type 0 where
-  first : dueBy a now ≡ false
-  second : dueBy b now ≡ false
+pub record Neither (a b : Time) (now : ℕ) : Type 0 where
+  pub first : dueBy a now ≡ false
+  pub second : dueBy b now ≡ false
 
 of-least : (t : Bool) (a b : ℕ) → ltb b a ≡ t → (now : ℕ) → leb (choose t b a) now ≡ false → (leb a now ≡ false) × (leb b now ≡ false)
 unfolding choose
 of-least true a b e now p = (lt-leb a now (let x : b < a = ltb-true b a e in let y : now < b = leb-false b now p in omega arith), p)
 of-least false a b e now p = (p, lt-leb b now (let x : a ≤ b = ltb-false b a e in let y : now < a = leb-false a now p in omega arith))
 
-neither : (a b : Time) (now : ℕ) → dueBy (earlier a b) now ≡ false → Neither a b now
+pub neither : (a b : Time) (now : ℕ) → dueBy (earlier a b) now ≡ false → Neither a b now
 unfolding dueBy earlier caseTime least
 neither Never b now p = record { first = refl; second = p }
 neither (At a) Never now p = record { first = p; second = refl }

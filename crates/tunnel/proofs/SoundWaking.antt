@@ -1,4 +1,4 @@
--- The waking keeps a sound control sound.
+-- The waking and settling keep a sound control sound.
 -- Assumes nothing.
 use mathlib.Core.Path.{_≡_}
 use mathlib.Core.Bool.{true}
@@ -12,15 +12,16 @@ use Rattle.tunnel.specs.Cases.{of-datagram}
 use Rattle.tunnel.proofs.SoundSending.{sound-encrypted, sound-initiated}
 use Rattle.tunnel.proofs.SoundSteps.{SoundControl, expire-sound, clear-sound, its-sessions, sound-timers, sound-handshake, sound-sessions, sound-queued, sound-later}
 use Rattle.base.proofs.Choice.{of-choice}
-use Rattle.tunnel.specs.Control.{Turn, withHandshake}
+use Rattle.tunnel.specs.Control.{Turn, withHandshake, done}
 use Rattle.tunnel.specs.declared.control.Control.{Control}
 use Rattle.tunnel.specs.Handshake.{HandshakeWithin, setExpired, expireCookie}
 use Rattle.tunnel.specs.Timers.{TimersWithin, maxJitter}
 use Rattle.tunnel.specs.declared.event.Event.the-variants.{SendHandshakeInitiation, SendKeepalive, ConnectionExpired}
 use Rattle.tunnel.specs.declared.handshake.Handshake.{Handshake}
 use Rattle.tunnel.specs.declared.timers.Timers.{Timers}
-use Rattle.tunnel.proofs.Wakings.{WakingKeeps, of-wake}
+use Rattle.tunnel.proofs.Wakings.{WakingKeeps, of-wake, of-repeat}
 use Rattle.tunnel.specs.HandleTimeout.{clearAll, expireControl, scheduling, queueKeepalive, passiveTimers, keepaliveTimers, sendKeepalive, keepaliveIfDue, sendScheduled, handleDue, handleTimeout}
+use Rattle.tunnel.specs.Settle.{settle}
 
 module _ (most now : ℕ) (h : now ≤ most) where
   -- the keepalives that are due queued, the scheduled handshake sent, the cookie dropped, the connection ended
@@ -87,6 +88,11 @@ module _ (most now : ℕ) (h : now ≤ most) where
   sound-wake : (jitter : ℕ) → jitter ≤ maxJitter → (c : Control) (store : List ℕ) → SoundControl c most → SoundControl (handleDue c store jitter now .control) most
   sound-wake jitter j c store w = of-wake (λ (x : Control) (y : List ℕ). SoundControl x most) jitter now (sound-kept jitter j) c store w (sound-scheduled c w)
 
+  pub turn-sound : (jitter : ℕ) → jitter ≤ maxJitter → (c : Control) (store : List ℕ) → SoundControl c most
+      → SoundControl (handleTimeout c store jitter now .out .control) most
+  unfolding handleTimeout done
+  turn-sound jitter j c store w = of-choice (λ (y : Turn). SoundControl (y .out .control) most) _ _ _ w (sound-wake jitter j c store w)
+
 -- the waking as a call sees it
 pub timeout-sound : (old now : ℕ) → old ≤ now → (c : Control) → SoundControl c old → (store : List ℕ) (jitter : ℕ) → jitter ≤ maxJitter
     → SoundOut (handleTimeout c store jitter now .out) old now
@@ -96,3 +102,12 @@ timeout-sound old now l c w store jitter j =
     let same : now ≤ now = omega arith in
     of-choice (λ (y : Turn). SoundOut (y .out) old now) _ _ _ (done-sound old now c _ later)
     (raising old now _ _ true (sound-wake now now same jitter j c store later))
+
+-- and settling
+pub settle-sound : (old now : ℕ) → old ≤ now → (c : Control) → SoundControl c old → (store : List ℕ) (jitter : ℕ) → jitter ≤ maxJitter
+    → SoundOut (settle c store jitter now .out) old now
+unfolding settle
+settle-sound old now l c w store jitter j =
+    let same : now ≤ now = omega arith in
+    raising old now _ _ _
+    (of-repeat (λ (x : Control) (words : List ℕ). SoundControl x now) jitter now (turn-sound now now same jitter j) _ c store (sound-later old now l c w))

@@ -49,7 +49,7 @@ module _ (P : Sessions → Type 0) (empty : (s : Sessions) (slot : ℕ) → P s 
   of-expire s store now w = of-choice (λ (x : Expiring). P (x .expired .sessions)) _ _ _ (of-expire-first _ 8 now w) w
 
 -- a slot that is filled after another one was emptied is what it was
-still-filled : (l : List Session) (i k : ℕ) → getD (set l i emptySession) k emptySession .filled ≡ true
+pub still-filled : (l : List Session) (i k : ℕ) → getD (set l i emptySession) k emptySession .filled ≡ true
     → getD (set l i emptySession) k emptySession ≡ getD l k emptySession
 unfolding emptySession
 still-filled [] i k p = refl

@@ -30,8 +30,9 @@ use Rattle.tunnel.specs.Handshake.{isInProgress, isExpired}
 use Rattle.tunnel.specs.InitiateHandshake.{restartHandshake, startHandshake}
 use Rattle.tunnel.specs.PollTimeout.{pollTimeout}
 use Rattle.tunnel.specs.RingBuffer.{Ring, queued, oldest}
-use Rattle.tunnel.specs.Tunnel.{gate, timelessGate, refused, letThrough, Called, callReceive, callTimeout, callEvent, callDeadline}
-use Rattle.tunnel.specs.declared.answer.Answer.the-variants.{NoAnswer, Done, Polled, Deadline}
+use Rattle.tunnel.specs.Settle.{wakingDue, repeatWaking, woke, settle}
+use Rattle.tunnel.specs.Tunnel.{gate, timelessGate, refused, letThrough, Called, callReceive, callTimeout, callSettle, callEvent, callDeadline}
+use Rattle.tunnel.specs.declared.answer.Answer.the-variants.{NoAnswer, Done, Polled, Deadline, Woke}
 use Rattle.tunnel.specs.declared.control.Control.{Control}
 use Rattle.tunnel.specs.declared.control.Out.{Out}
 use Rattle.tunnel.specs.declared.handshake.HandshakeState.the-variants.{InitSent, Expired}
@@ -65,6 +66,10 @@ module _ (c : Control) where
   unfolding handleTimeout choose
   timeout-expired store jitter now e = rw (expired-test e) refl
 
+  settle-expired : (store : List ℕ) (jitter now : ℕ) → c .handshake .state ≡ Expired → settle c store jitter now ≡ record { out = woke c 0; store = store }
+  unfolding settle repeatWaking wakingDue choose
+  settle-expired store jitter now e = rw (expired-test e) refl
+
   deadline-expired : (last : ℕ) → c .handshake .state ≡ Expired → pollTimeout c last ≡ Never
   unfolding pollTimeout choose
   deadline-expired last e = rw (expired-test e) refl
@@ -81,6 +86,20 @@ timeout-nothing t store jitter now x =
     → (a .answered .answer ≡ NoAnswer) × (a .answered .tunnel ≡ withGreatest t now) × (a .store ≡ store))
     store _
     (λ z e. rw (timeout-expired (t .control) store jitter now x) (refl, refl, refl))
+    (λ z e. absurd (z (rw (refused-number t (gate t (badJitter jitter store) now)) at e)))
+
+-- settling it
+pub settle-nothing : (t : Tunnel) (store : List ℕ) (jitter now : ℕ) → IsExpired t → numberOf (callSettle t store jitter now .answered .answer) ≡ 0
+    → (callSettle t store jitter now .answered .answer ≡ Woke 0)
+    × (callSettle t store jitter now .answered .tunnel ≡ withGreatest t now)
+    × (callSettle t store jitter now .store ≡ store)
+unfolding callSettle letThrough choose
+settle-nothing t store jitter now x =
+    of-turn t (badJitter jitter store) now
+    (λ (a : Called). numberOf (a .answered .answer) ≡ 0
+    → (a .answered .answer ≡ Woke 0) × (a .answered .tunnel ≡ withGreatest t now) × (a .store ≡ store))
+    store _
+    (λ z e. rw (settle-expired (t .control) store jitter now x) (refl, refl, refl))
     (λ z e. absurd (z (rw (refused-number t (gate t (badJitter jitter store) now)) at e)))
 
 -- an empty batch

@@ -12,8 +12,9 @@ use Rattle.tunnel.specs.Decapsulate.{commitDecapsulate}
 use Rattle.tunnel.specs.declared.control.Control.{Control}
 use Rattle.sessions.specs.Batch.{Batched}
 use Rattle.tunnel.specs.declared.control.Out.{Out}
-use Rattle.tunnel.proofs.Wakings.{WakingKeeps, of-wake}
+use Rattle.tunnel.proofs.Wakings.{WakingKeeps, of-wake, of-repeat}
 use Rattle.tunnel.specs.HandleTimeout.{clearAll, expireControl, handleDue, handleTimeout}
+use Rattle.tunnel.specs.Settle.{settle}
 use mathlib.Core.Bool.{Bool}
 use Rattle.tunnel.specs.Tunnel.{kept}
 use Rattle.tunnel.specs.declared.tunnel.Tunnel.{Tunnel}
@@ -49,7 +50,7 @@ ended-whole : (c : Control) (store : List ℕ) (now : ℕ) → Whole store → W
 unfolding expireControl clearAll
 ended-whole c store now l = whole-law (c .sessions) store l .clearing
 
-wake-whole : (c : Control) (store : List ℕ) (jitter now : ℕ) → Whole store → Whole (handleDue c store jitter now .store)
+pub wake-whole : (c : Control) (store : List ℕ) (jitter now : ℕ) → Whole store → Whole (handleDue c store jitter now .store)
 wake-whole c store jitter now l = of-wake (λ (x : Control) (words : List ℕ). Whole words) jitter now steps c store l l
   where
     steps : WakingKeeps (λ (x : Control) (words : List ℕ). Whole words) jitter now
@@ -65,6 +66,11 @@ wake-whole c store jitter now l = of-wake (λ (x : Control) (words : List ℕ). 
 pub timeout-store : (c : Control) (store : List ℕ) → Whole store → (jitter now : ℕ) → Whole (handleTimeout c store jitter now .store)
 unfolding handleTimeout
 timeout-store c store l jitter now = of-choice (λ (y : Turn). Whole (y .store)) _ _ _ l (wake-whole c store jitter now l)
+
+pub settle-store : (c : Control) (store : List ℕ) → Whole store → (jitter now : ℕ) → Whole (settle c store jitter now .store)
+unfolding settle
+settle-store c store l jitter now =
+    of-repeat (λ (x : Control) (words : List ℕ). Whole words) jitter now (λ x words m. timeout-store x words m jitter now) _ c store l
 
 -- what a call leaves in place of the store that came
 pub kept-whole : (t : Tunnel) (bad : Bool) (now : ℕ) (came left : List ℕ) → Whole came → Whole left → Whole (kept t bad now came left)

@@ -1,9 +1,9 @@
--- What every step of a waking keeps, the waking keeps, save where it sends a scheduled handshake.
+-- What every step of a waking keeps, the waking keeps, save where it sends a scheduled handshake; and what a waking keeps, the repetition keeps.
 -- Assumes nothing.
 use mathlib.Core.Path.{_≡_}
 use mathlib.Core.Bool.{Bool, false}
 use mathlib.Core.List.{List}
-use Prim.Native.Nat.{ℕ}
+use Prim.Native.Nat.{ℕ, zero, suc}
 use Rattle.base.proofs.Choice.{of-choice}
 use Rattle.base.specs.Choice.{choose}
 use Rattle.sessions.specs.Cases.{of-found, of-time}
@@ -13,7 +13,8 @@ use Rattle.tunnel.specs.declared.control.Control.{Control}
 use Rattle.tunnel.specs.Handshake.{expireCookie}
 use Rattle.tunnel.specs.PollTimeout.{scheduledHandshake}
 use Rattle.sessions.specs.Sessions.{expire}
-use Rattle.tunnel.specs.HandleTimeout.{Inner, expireControl, scheduling, keepaliveIfDue, rekeyOrKeepalive, giveUpOrRetry, maintainConnection, expireSessions, sendScheduled, handleDue}
+use Rattle.tunnel.specs.HandleTimeout.{Inner, expireControl, scheduling, keepaliveIfDue, rekeyOrKeepalive, giveUpOrRetry, maintainConnection, expireSessions, sendScheduled, handleDue, handleTimeout}
+use Rattle.tunnel.specs.Settle.{Woken, repeatWaking}
 
 -- the steps of a waking that sends no scheduled handshake keep what is said of a control and its store
 pub record WakingKeeps (P : Control → List ℕ → Type 0) (jitter now : ℕ) : Type 0 where
@@ -61,3 +62,12 @@ module _ (P : Control → List ℕ → Type 0) (jitter now : ℕ) (k : WakingKee
   pub of-wake : (c : Control) (store : List ℕ) → P c store → P (sendScheduled c now) store → Holds (handleDue c store jitter now)
   unfolding handleDue
   of-wake c store w sent = of-choice Holds _ _ _ sent (of-time Holds _ _ _ (of-expired c store w) (λ at. w))
+
+-- the repetition of wakings
+module _ (P : Control → List ℕ → Type 0) (jitter now : ℕ)
+    (k : (c : Control) (store : List ℕ) → P c store → P (handleTimeout c store jitter now .out .control) (handleTimeout c store jitter now .store)) where
+  pub of-repeat : (most : ℕ) (c : Control) (store : List ℕ) → P c store
+      → P (repeatWaking most c store jitter now .control) (repeatWaking most c store jitter now .store)
+  unfolding repeatWaking
+  of-repeat zero c store w = w
+  of-repeat (suc most) c store w = of-choice (λ (y : Woken). P (y .control) (y .store)) _ _ _ (of-repeat most _ _ (k c store w)) w

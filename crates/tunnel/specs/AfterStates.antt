@@ -17,8 +17,8 @@ use Rattle.tunnel.specs.Answer.{numberOf}
 use Rattle.tunnel.specs.Control.{withSessions, withTimers, withEvents}
 use Rattle.tunnel.specs.RingBuffer.{queued, oldest}
 use Rattle.tunnel.specs.Timers.{withSent, withDataSent, withReceivedWithoutReply, withSentWithoutReply, getOr}
-use Rattle.tunnel.specs.Tunnel.{callNew, callStart, callRestart, callSend, callReceive, callLook, callInitiation, callResponse, callCookie, callTimeout, callEvent, callDeadline, callMissing}
-use Rattle.tunnel.specs.declared.answer.Answer.the-variants.{NoAnswer, Polled, Deadline}
+use Rattle.tunnel.specs.Tunnel.{callNew, callStart, callRestart, callSend, callReceive, callLook, callInitiation, callResponse, callCookie, callTimeout, callSettle, callEvent, callDeadline, callMissing}
+use Rattle.tunnel.specs.declared.answer.Answer.the-variants.{NoAnswer, Polled, Deadline, Woke}
 use Rattle.tunnel.specs.declared.answer.Answer.{Answer}
 use Rattle.tunnel.specs.declared.control.Control.{Control}
 use Rattle.tunnel.specs.declared.handshake.HandshakeState.the-variants.{InitSent, Expired}
@@ -90,6 +90,8 @@ pub record AfterStates (t : Tunnel) (store : List ℕ) : Type 0 where
   pub cookie : (receiver outcome now : ℕ) → TurnedDown (callCookie t receiver outcome now .answer) → callCookie t receiver outcome now .tunnel ≡ t
   pub timeout : (jitter now : ℕ) → TurnedDown (callTimeout t store jitter now .answered .answer)
       → (callTimeout t store jitter now .answered .tunnel ≡ t) × (callTimeout t store jitter now .store ≡ store)
+  pub settle : (jitter now : ℕ) → TurnedDown (callSettle t store jitter now .answered .answer)
+      → (callSettle t store jitter now .answered .tunnel ≡ t) × (callSettle t store jitter now .store ≡ store)
   pub event : TurnedDown (callEvent t .answer) → callEvent t .tunnel ≡ t
   -- the early look, the deadline and the missing report change nothing, turned down or not
   pub look : (index counter now : ℕ) → callLook t store index counter now .tunnel ≡ t
@@ -117,6 +119,8 @@ pub record GreatestLaw (t : Tunnel) (store : List ℕ) : Type 0 where
   pub cookie : (receiver outcome now : ℕ) → numberOf (callCookie t receiver outcome now .answer) ≡ 0 → callCookie t receiver outcome now .tunnel .greatest ≡ now
   pub timeout : (jitter now : ℕ) → numberOf (callTimeout t store jitter now .answered .answer) ≡ 0
       → callTimeout t store jitter now .answered .tunnel .greatest ≡ now
+  pub settle : (jitter now : ℕ) → numberOf (callSettle t store jitter now .answered .answer) ≡ 0
+      → callSettle t store jitter now .answered .tunnel .greatest ≡ now
 
 -- The tunnel is expired.
 abbrev pub IsExpired : Tunnel → Type 0
@@ -139,6 +143,11 @@ pub record StillLaw (t : Tunnel) (store : List ℕ) : Type 0 where
       → (callStart t now .answer ≡ NoAnswer) × (callStart t now .tunnel ≡ withGreatest t now)
   pub restart : (now : ℕ) → IsExpired t → numberOf (callRestart t now .answer) ≡ 0
       → (callRestart t now .answer ≡ NoAnswer) × (callRestart t now .tunnel ≡ withGreatest t now)
+  -- settling an expired tunnel, which makes no waking
+  pub settle : (jitter now : ℕ) → IsExpired t → numberOf (callSettle t store jitter now .answered .answer) ≡ 0
+      → (callSettle t store jitter now .answered .answer ≡ Woke 0)
+      × (callSettle t store jitter now .answered .tunnel ≡ withGreatest t now)
+      × (callSettle t store jitter now .store ≡ store)
   -- starting while an initiation awaits its response, which answers nothing
   pub again : (now local sent : ℕ) → t .control .handshake .state ≡ InitSent local sent → numberOf (callStart t now .answer) ≡ 0
       → (callStart t now .answer ≡ NoAnswer) × (callStart t now .tunnel ≡ withGreatest t now)
@@ -167,6 +176,7 @@ pub record ExpiredLaw (t : Tunnel) (store : List ℕ) : Type 0 where
   pub response : (receiver peer outcome now : ℕ) → NoneCurrent (callResponse t store receiver peer outcome now .answered .tunnel)
   pub cookie : (receiver outcome now : ℕ) → NoneCurrent (callCookie t receiver outcome now .tunnel)
   pub timeout : (jitter now : ℕ) → NoneCurrent (callTimeout t store jitter now .answered .tunnel)
+  pub settle : (jitter now : ℕ) → NoneCurrent (callSettle t store jitter now .answered .tunnel)
   pub event : NoneCurrent (callEvent t .tunnel)
   pub deadline : NoneCurrent (callDeadline t .tunnel)
   pub missing : (index : ℕ) → NoneCurrent (callMissing t store index .tunnel)

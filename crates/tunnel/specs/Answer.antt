@@ -1,7 +1,7 @@
 -- What an answer says in document 01's terms: its number, its word and its values.
 use mathlib.Core.List.{List, [], _∷_}
 use Prim.Native.Nat.{ℕ}
-use Rattle.tunnel.specs.declared.answer.Answer.the-variants.{No, Done, NoAnswer, Initiation, Response, Keepalive, Granted, Polled, Deadline, Report}
+use Rattle.tunnel.specs.declared.answer.Answer.the-variants.{No, Done, NoAnswer, Initiation, Response, Keepalive, Granted, Polled, Deadline, Report, Woke}
 use Rattle.tunnel.specs.declared.answer.Answer.{Answer}
 use Rattle.tunnel.specs.declared.event.Event.the-variants.{Empty, SendHandshakeInitiation, SendKeepalive, Established, ConnectionExpired}
 use Rattle.tunnel.specs.declared.event.Event.{Event}
@@ -10,7 +10,7 @@ use Rattle.sessions.specs.declared.session.Time.{Time}
 
 -- the word after `ok`: `bare` where there is none, `turned` where the answer is a number that turns the call down
 pub data Word : Type 0 where
-  turned bare none init resp key range est exp at missing : Word
+  turned bare none init resp key range est exp at missing woke : Word
 
 -- the number that turns a call down, or 0
 unfoldable pub numberOf : Answer → ℕ
@@ -24,6 +24,7 @@ numberOf (Granted granted) = 0
 numberOf (Polled event) = 0
 numberOf (Deadline time) = 0
 numberOf (Report count) = 0
+numberOf (Woke wakings) = 0
 
 -- the word of an event
 unfoldable pub eventWord : Event → Word
@@ -63,6 +64,7 @@ answerWord (Granted granted) = range
 answerWord (Polled event) = eventWord event
 answerWord (Deadline time) = timeWord time
 answerWord (Report count) = missing
+answerWord (Woke wakings) = woke
 
 -- the values of an answer, in the order in which drive writes them
 unfoldable pub valuesOf : Answer → List ℕ
@@ -76,3 +78,4 @@ valuesOf (Granted granted) = granted .peer ∷ granted .first ∷ granted .len �
 valuesOf (Polled event) = eventValues event
 valuesOf (Deadline time) = timeValues time
 valuesOf (Report count) = count ∷ []
+valuesOf (Woke wakings) = wakings ∷ []

@@ -12,7 +12,7 @@ use Rattle.tunnel.specs.Control.{withHandshake, withSessions, done}
 use Rattle.tunnel.specs.Damage.{undamaged}
 use Rattle.tunnel.specs.Encapsulate.{encryptKeepalive}
 use Rattle.tunnel.specs.HandleHandshake.{confirming, complete}
-use Rattle.tunnel.specs.Tunnel.{gate, callStart, callRestart, callSend, callReceive, callLook, callInitiation, callResponse, callCookie, callTimeout, callEvent, callDeadline, callMissing}
+use Rattle.tunnel.specs.Tunnel.{gate, callStart, callRestart, callSend, callReceive, callLook, callInitiation, callResponse, callCookie, callTimeout, callSettle, callEvent, callDeadline, callMissing}
 use Rattle.tunnel.specs.declared.answer.Answer.the-variants.{Keepalive}
 use Rattle.tunnel.specs.declared.control.Control.{Control}
 use Rattle.tunnel.specs.declared.encapsulate.Datagram.the-variants.{Sent}
@@ -43,6 +43,7 @@ pub record SettingLaw (t : Tunnel) (store : List ℕ) : Type 0 where
   pub response : (receiver peer outcome now : ℕ) → settingOf (callResponse t store receiver peer outcome now .answered .tunnel) ≡ settingOf t
   pub cookie : (receiver outcome now : ℕ) → settingOf (callCookie t receiver outcome now .tunnel) ≡ settingOf t
   pub timeout : (jitter now : ℕ) → settingOf (callTimeout t store jitter now .answered .tunnel) ≡ settingOf t
+  pub settle : (jitter now : ℕ) → settingOf (callSettle t store jitter now .answered .tunnel) ≡ settingOf t
   pub event : settingOf (callEvent t .tunnel) ≡ settingOf t
   pub deadline : settingOf (callDeadline t .tunnel) ≡ settingOf t
   pub missing : (index : ℕ) → settingOf (callMissing t store index .tunnel) ≡ settingOf t

@@ -18,6 +18,8 @@ pub mod Numbers
 pub mod PollTimeout
 pub mod Quiet
 pub mod RingBuffer
+pub mod Settle
+pub mod Settled
 pub mod Sound
 pub mod Timers
 pub mod Tunnel

@@ -7,7 +7,7 @@ use lib.ListN.{length}
 use Rattle.sessions.specs.Laws.{IsBatch}
 use Rattle.tunnel.specs.Answer.{numberOf}
 use Rattle.tunnel.specs.Facts.{Undamaged}
-use Rattle.tunnel.specs.Tunnel.{callNew, callStart, callRestart, callSend, callReceive, callLook, callInitiation, callResponse, callCookie, callTimeout, callEvent, callDeadline, callMissing}
+use Rattle.tunnel.specs.Tunnel.{callNew, callStart, callRestart, callSend, callReceive, callLook, callInitiation, callResponse, callCookie, callTimeout, callSettle, callEvent, callDeadline, callMissing}
 use Rattle.tunnel.specs.declared.handshake.HandshakeState.the-variants.{Expired}
 use Rattle.tunnel.specs.declared.tunnel.Tunnel.{Tunnel}
 
@@ -74,6 +74,9 @@ pub record NumbersLaw (t : Tunnel) (store : List ℕ) : Type 0 where
       → FirstFailing (numberOf (callCookie t receiver outcome now .answer)) (Timely now) (OpeningNamed outcome) (Undamaged t) (Onward t now) (Alive t)
   pub timeout : (jitter now : ℕ)
       → FirstFailing (numberOf (callTimeout t store jitter now .answered .answer)) (Timely now) (IsStore store × (jitter ≤ 333000000))
+      (Undamaged t) (Onward t now) Always
+  pub settle : (jitter now : ℕ)
+      → FirstFailing (numberOf (callSettle t store jitter now .answered .answer)) (Timely now) (IsStore store × (jitter ≤ 333000000))
       (Undamaged t) (Onward t now) Always
   pub event : FirstFailing (numberOf (callEvent t .answer)) Always Always (Undamaged t) Always Always
   pub deadline : FirstFailing (numberOf (callDeadline t .answer)) Always Always (Undamaged t) Always Always

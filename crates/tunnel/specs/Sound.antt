@@ -6,7 +6,7 @@ use Prim.Native.Nat.{ℕ}
 use lib.ListN.{length}
 use Rattle.tunnel.specs.declared.answer.Answer.the-variants.{Done}
 use Rattle.tunnel.specs.Damage.{undamaged}
-use Rattle.tunnel.specs.Tunnel.{callNew, callStart, callRestart, callSend, callReceive, callLook, callInitiation, callResponse, callCookie, callTimeout, callEvent, callDeadline, callMissing}
+use Rattle.tunnel.specs.Tunnel.{callNew, callStart, callRestart, callSend, callReceive, callLook, callInitiation, callResponse, callCookie, callTimeout, callSettle, callEvent, callDeadline, callMissing}
 use Rattle.tunnel.specs.declared.tunnel.Tunnel.{Tunnel}
 
 -- a tunnel that number 14 lets through, with the eight slots and the sixteen places for events that its arrays have
@@ -27,6 +27,7 @@ pub record SoundLaw (t : Tunnel) : Type 0 where
   pub response : (store : List ℕ) (receiver peer outcome now : ℕ) → Sound (callResponse t store receiver peer outcome now .answered .tunnel)
   pub cookie : (receiver outcome now : ℕ) → Sound (callCookie t receiver outcome now .tunnel)
   pub timeout : (store : List ℕ) (jitter now : ℕ) → Sound (callTimeout t store jitter now .answered .tunnel)
+  pub settle : (store : List ℕ) (jitter now : ℕ) → Sound (callSettle t store jitter now .answered .tunnel)
   pub event : Sound (callEvent t .tunnel)
   pub deadline : Sound (callDeadline t .tunnel)
   pub missing : (store : List ℕ) (index : ℕ) → Sound (callMissing t store index .tunnel)
@@ -38,6 +39,7 @@ pub record StoreLaw (t : Tunnel) (store : List ℕ) : Type 0 where
   pub initiation : (peer outcome now : ℕ) → length (callInitiation t store peer outcome now .store) ≡ 1024
   pub response : (receiver peer outcome now : ℕ) → length (callResponse t store receiver peer outcome now .store) ≡ 1024
   pub timeout : (jitter now : ℕ) → length (callTimeout t store jitter now .store) ≡ 1024
+  pub settle : (jitter now : ℕ) → length (callSettle t store jitter now .store) ≡ 1024
 
 -- A creation hands back a sound tunnel, turned down or not, and a store of 1,024 words where it is not turned down.
 pub record CreatedLaw (store : List ℕ) (index keepalive now : ℕ) : Type 0 where

@@ -11,6 +11,7 @@ use Rattle.tunnel.specs.HandleHandshake.{handleHandshakeInitiation, hand
 use Rattle.tunnel.specs.Decapsulate.{commitDecapsulate, beginDecapsulate}
 use Rattle.tunnel.specs.Encapsulate.{send}
 use Rattle.tunnel.specs.HandleTimeout.{handleTimeout}
+use Rattle.tunnel.specs.Settle.{settle}
 use Rattle.tunnel.specs.declared.answer.Answer.the-variants.{No, Done, Deadline}
 use Rattle.tunnel.specs.declared.answer.Answer.{Answer}
 use Rattle.tunnel.specs.declared.control.Out.{Out}
@@ -141,6 +142,10 @@ callCookie t receiver n now =
 -- a waking
 unfoldable pub callTimeout : Tunnel → List ℕ → (jitter now : ℕ) → Called
 callTimeout t store jitter now = timedTurn t (badJitter jitter store) now store (handleTimeout (t .control) store jitter now)
+
+-- settling
+unfoldable pub callSettle : Tunnel → List ℕ → (jitter now : ℕ) → Called
+callSettle t store jitter now = timedTurn t (badJitter jitter store) now store (settle (t .control) store jitter now)
 
 -- the oldest event
 unfoldable pub callEvent : Tunnel → Answered

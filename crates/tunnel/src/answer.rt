@@ -23,4 +23,6 @@ pub enum Answer {
     Deadline(Time),
     // How many window counters are not committed.
     Report(u64),
+    // How many wakings a settling made.
+    Woke(u8),
 }

@@ -12,6 +12,7 @@ ghost use Rattle.tunnel.specs.AfterStates.{AfterStates, GreatestLaw, Sti
 ghost use Rattle.tunnel.specs.Ahead.{AheadLaw, AheadExample};
 ghost use Rattle.tunnel.specs.Numbers.{NumbersLaw};
 ghost use Rattle.tunnel.specs.Deadline.{DeadlineLaw};
+ghost use Rattle.tunnel.specs.Settled.{SettleLaw, SettleExample};
 ghost use Rattle.tunnel.specs.Sound.{Sound, SoundLaw, StoreLaw, CreatedLaw};
 ghost use Rattle.tunnel.specs.declared.tunnel.Tunnel.{Tunnel};
 
@@ -60,6 +61,16 @@ pub fn ahead_example()
     ensures { λ r. ⌜ AheadExample ⌝ }
 {}
 
+// Settling that is not turned down comes to the plain repetition of single wakings, which ends after three at most.
+pub fn settle_law()
+    ensures { λ r. ⌜ ((t : Tunnel) (store : List ℕ) (jitter now : ℕ) → length (t .control .sessions .slots) ≡ 8 → length (t .control .events .slots) ≡ 16 → SettleLaw t store jitter now) ⌝ }
+{}
+
+// There are settlings that wake never, once, twice and three times.
+pub fn settle_example()
+    ensures { λ r. ⌜ SettleExample ⌝ }
+{}
+
 // A response that opened makes its session the current one and is answered with that session's first counter.
 pub fn response_law()
     ensures { λ r. ⌜ ((t : Tunnel) → Sound t → (handshake : Handshake) (store : List ℕ) (receiver peer now : ℕ) → t .greatest ≤ now → length store ≡ 1024 → ResponseLaw (t .control) handshake store receiver peer now) ⌝ }
@@ -75,7 +86,8 @@ pub fn greatest_law()
     ensures { λ r. ⌜ ((t : Tunnel) (store : List ℕ) → GreatestLaw t store) ⌝ }
 {}
 
-// An empty batch, and a waking, start or restart that answers nothing, raise the greatest time only, and an expired tunnel has no deadline.
+// An empty batch, a settling without a waking, and a waking, start or restart that answers nothing, raise the greatest time only, and an
+// expired tunnel has no deadline.
 pub fn still_law()
     ensures { λ r. ⌜ ((t : Tunnel) (store : List ℕ) → StillLaw t store) ⌝ }
 {}

@@ -1,5 +1,5 @@
 // A tunnel: `tunnel::Tunnel` has one method for each call, with the checks that precede what the Rust's own tunnel does, which is the `control::Control` of
-// the other modules. They are named after the Rust's files and the functions of src/tunnel.rs.
+// the other modules. They are named after the Rust's files and the functions of src/tunnel.rs, save `settle`, which the Rust does not have.
 pub mod answer;
 pub mod arguments;
 pub mod claims;
@@ -14,5 +14,6 @@ pub mod handshake;
 pub mod initiate_handshake;
 pub mod poll_timeout;
 pub mod ring_buffer;
+pub mod settle;
 pub mod timers;
 pub mod tunnel;

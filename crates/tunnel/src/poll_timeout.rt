@@ -163,7 +163,7 @@ impl Control {
     }
 
     // The earliest deadline.
-    fn next_deadline(self) -> Time
+    pub(crate) fn next_deadline(self) -> Time
         requires { ⌜ ControlWithin self timeLimit ⌝ }
         ensures { λ r. ⌜ r ≡ nextDeadline self ⌝ }
     {

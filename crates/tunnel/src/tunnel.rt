@@ -16,7 +16,7 @@ ghost use mathlib.Core.Path.{_≡_};
 ghost use Rattle.base.specs.Choice.{choose};
 ghost use Rattle.sessions.specs.Batch.{LeavesBatch};
 ghost use Rattle.sessions.specs.Store.{Leaves};
-ghost use Rattle.tunnel.specs.Tunnel.{tested, testedTimeless, newTunnel, refused, letThrough, callNew, callStart, callRestart, callSend, callReceive, callLook, callInitiation, callResponse, callCookie, callTimeout, callEvent, callDeadline, callMissing};
+ghost use Rattle.tunnel.specs.Tunnel.{tested, testedTimeless, newTunnel, refused, letThrough, callNew, callStart, callRestart, callSend, callReceive, callLook, callInitiation, callResponse, callCookie, callTimeout, callSettle, callEvent, callDeadline, callMissing};
 
 // The greatest time that a call may have.
 pub const TIME_LIMIT: u64 = 4_000_000_000_000_000_000;
@@ -272,6 +272,28 @@ impl Tunnel {
             return self.refused(number);
         }
         let out = self.control.handle_timeout(store, jitter, now);
+        self.let_through(now, out)
+    }
+
+    // Wakes the tunnel at one time while its next deadline, queued events disregarded, is at or before it, three times at most, and answers
+    // how often. Where no waking is due it raises the greatest time only.
+    pub fn settle(mut self, store: &mut [u64], jitter: u64, now: u64) -> Answered
+        ensures { λ r. ⌜ Leaves r (callSettle self (store .entry .now) jitter now .answered) (store .exit .now) (callSettle self (store .entry .now) jitter now .store) ⌝ }
+    {
+        let bad = bad_jitter(jitter, store);
+        let sound = self.undamaged();
+        let number = gate(bad, sound, self.greatest, now);
+        if number != 0 {
+            return self.refused(number);
+        }
+        if !self.control.waking_due(now) {
+            self.greatest = now;
+            return Answered {
+                tunnel: self,
+                answer: Answer::Woke(0),
+            };
+        }
+        let out = self.control.settle(store, jitter, now);
         self.let_through(now, out)
     }
 

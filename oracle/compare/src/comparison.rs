@@ -6,7 +6,7 @@ use crate::cut::{cut_down, text};
 use crate::maker::Script;
 use crate::programs::{Output, first_difference, run_both};
 use crate::tally::Tally;
-use crate::told::{Told, told};
+use crate::told::{Replay, replay};
 
 /// The most scripts that one run of a program answers.
 const BATCH: usize = 300;
@@ -73,24 +73,22 @@ impl<'a> Comparison<'a> {
         self.runs += 1;
 
         let outputs = run_both(self.programs, &input);
-        let told = told(&lines, &outputs[0].lines);
-        let holds = told.iter().all(|told| told.holds);
-        if holds && first_difference(&outputs).is_none() && outputs[0].lines.len() == lines.len() {
+        let replay = replay(&lines, &outputs[0].lines);
+        let equal = first_difference(&outputs).is_none();
+        if replay.holds() && equal && outputs[0].lines.len() == lines.len() {
             self.scripts += batch.len() as u64;
             for (line, answer) in lines.iter().zip(&outputs[0].lines) {
                 self.tally.count(line, answer);
             }
-            for told in &told {
-                self.tally.count_told(told);
-            }
+            self.tally.count_replay(&replay, 0..lines.len());
             return;
         }
-        self.find_differences(batch, &outputs, &told);
+        self.find_differences(batch, &outputs, &replay);
     }
 
     /// Finds the scripts of a batch that were answered differently, or in which the first program told another index than the Rust then used.
-    fn find_differences(&mut self, batch: &[Named], outputs: &[Output; 2], told: &[Told]) {
-        let wrong = told.iter().filter(|told| !told.holds);
+    fn find_differences(&mut self, batch: &[Named], outputs: &[Output; 2], replay: &Replay) {
+        let wrong = replay.told.iter().filter(|told| !told.holds);
         let wrong: BTreeSet<usize> = wrong.map(|told| told.at).collect();
         let mut start = 0;
 
@@ -107,11 +105,7 @@ impl<'a> Comparison<'a> {
             for (line, answer) in script.lines[..equal].iter().zip(&outputs[0].lines[start..]) {
                 self.tally.count(line, answer);
             }
-            for told in told {
-                if (start..start + equal).contains(&told.at) {
-                    self.tally.count_told(told);
-                }
-            }
+            self.tally.count_replay(replay, start..start + equal);
             if differs.is_some() || (last && ends_differently(outputs, end)) {
                 self.note_difference(name, &batch[..=at]);
                 if self.stop {
@@ -152,7 +146,7 @@ impl<'a> Comparison<'a> {
     /// Prints a script beside the answers of both programs, and each index of the Rust that the first one did not tell.
     fn print_cut(&self, lines: &[Vec<u8>]) {
         let outputs = run_both(self.programs, &text(lines));
-        let told = told(lines, &outputs[0].lines);
+        let told = replay(lines, &outputs[0].lines).told;
         let shown = |output: &Output, at: usize| {
             output
                 .lines

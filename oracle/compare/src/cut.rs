@@ -1,7 +1,7 @@
 //! Cuts a script on which two programs differ down to a short one.
 
 use crate::programs::{first_difference, run_both};
-use crate::told::told;
+use crate::told::replay;
 
 /// Removes lines, then messages of batches and reports of callouts, as long as the programs still differ; gives nothing
 /// where they do not differ on the whole script.
@@ -19,9 +19,9 @@ pub(crate) fn cut_down(programs: [&str; 2], script: &[Vec<u8>]) -> Option<Vec<Ve
 /// Whether the programs answer a script differently, or the first tells another index than the Rust then uses.
 fn differs(programs: [&str; 2], lines: &[Vec<u8>]) -> bool {
     let outputs = run_both(programs, &text(lines));
-    let told = told(lines, &outputs[0].lines);
+    let replay = replay(lines, &outputs[0].lines);
 
-    first_difference(&outputs).is_some() || told.iter().any(|told| !told.holds)
+    first_difference(&outputs).is_some() || !replay.holds()
 }
 
 /// The lines of a script as one text.

@@ -84,7 +84,8 @@ impl Iterator for Exhaustive {
 }
 
 /// The script of a word: a tunnel, each letter with the next index before it and the deadline after it, the skips and the last heard time after
-/// each batch, the events, the skips, the next index and when each session was last heard.
+/// each batch, a settling just before the deadline, the events, the skips, the next index and when each session was last heard, and at the end a
+/// settling at the deadline with its events.
 fn spell(word: impl Iterator<Item = Letter>) -> Script {
     let mut speller = Speller {
         driver: Driver::new(),
@@ -103,12 +104,18 @@ fn spell(word: impl Iterator<Item = Letter>) -> Script {
             speller.ask(format!("heard {index}"));
         }
     }
-    while !matches!(speller.ask("event".to_string()), Some(Answer::None)) {}
+    let [now, due] = speller.now_and_due();
+    speller.ask(format!("settle 0 {}", now.max(due - 1)));
+    speller.drain();
     speller.ask("skips".to_string());
     speller.ask("ahead".to_string());
     for index in speller.held() {
         speller.ask(format!("heard {index}"));
     }
+    let [_, due] = speller.now_and_due();
+    speller.ask(format!("settle 0 {due}"));
+    speller.ask("next".to_string());
+    speller.drain();
 
     Script {
         lines: speller.lines,
@@ -128,6 +135,19 @@ impl Speller {
 
         self.lines.push(line.into_bytes());
         answer.ok()
+    }
+
+    /// Takes all events.
+    fn drain(&mut self) {
+        while !matches!(self.ask("event".to_string()), Some(Answer::None)) {}
+    }
+
+    /// The greatest time and the next deadline, queued events disregarded, or the greatest time where that has come or is none.
+    fn now_and_due(&self) -> [u64; 2] {
+        let view = self.driver.view().expect("the word began with `new`");
+        let due = view.deadline.unwrap_or(view.greatest);
+
+        [view.greatest, due.max(view.greatest)]
     }
 
     /// The indices of all sessions.

@@ -29,7 +29,7 @@ pub fn make_pair(seed: u64, length: usize, dropped: Option<usize>) -> Pair {
     let created = maker.create_pair(dropped);
 
     while !maker.full() && !maker.rests() {
-        maker.go_on();
+        maker.go_on_or_settle();
     }
     maker.end();
 

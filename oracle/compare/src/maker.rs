@@ -9,6 +9,7 @@ use crate::insertion::Insertion;
 use crate::log_moves::LogMoves;
 use crate::profiles::{self, Profile};
 use crate::random::Random;
+use crate::settle_moves::SettleMoves;
 use crate::skip_moves::SkipMoves;
 
 /// The lines of a script, each without its newline.
@@ -28,15 +29,7 @@ impl Script {
 
 /// Makes the script of `seed`, of about `length` lines.
 pub fn make_script(seed: u64, length: usize) -> Script {
-    let mut maker = Maker::new(seed, length);
-
-    maker.begin();
-    while !maker.full() {
-        maker.go_on();
-    }
-    maker.end();
-
-    Script { lines: maker.lines }
+    Maker::new(seed, length).whole(Maker::go_on)
 }
 
 /// A script under way, and the oracle that answers it.
@@ -52,6 +45,7 @@ pub(crate) struct Maker {
     pub(crate) skips: SkipMoves,
     pub(crate) heard: HeardMoves,
     pub(crate) ahead: AheadMoves,
+    pub(crate) settle: SettleMoves,
     /// The extra wakings, where a pair of scripts is made.
     pub(crate) insertion: Option<Insertion>,
 }
@@ -74,8 +68,20 @@ impl Maker {
             skips: SkipMoves::new(seed),
             heard: HeardMoves::new(seed),
             ahead: AheadMoves::new(seed),
+            settle: SettleMoves::new(seed),
             insertion: None,
         }
+    }
+
+    /// The whole script, grown by `go_on`, which adds a few lines.
+    pub(crate) fn whole(mut self, go_on: fn(&mut Self)) -> Script {
+        self.begin();
+        while !self.full() {
+            go_on(&mut self);
+        }
+        self.end();
+
+        Script { lines: self.lines }
     }
 
     /// Begins with `new`, or now and then with calls before it.
@@ -122,10 +128,10 @@ impl Maker {
         self.lines.len() - beside >= self.length
     }
 
-    /// Adds a line, now and then a question for the next index before it, a datagram, lines of the log, skips, a last heard time or the next
+    /// Adds a line, a waking now and then as a settling, now and then a question for the next index before it, a datagram, lines of the log, skips, a last heard time or the next
     /// index behind it, and gives the oracle's answer to the line, if it is good.
     pub(crate) fn ask(&mut self, line: impl Into<Vec<u8>>) -> Option<Answer> {
-        let line = line.into();
+        let line = self.settling_now_and_then(line.into());
         let alone = self.insertion.is_none();
         if alone {
             self.ahead_before(&line);

@@ -8,7 +8,7 @@ use crate::times::{MAX_JITTER, Pace, SECOND, TIME_LIMIT};
 /// The limit of counters.
 pub(crate) const LIMIT: u64 = u64::MAX - 8_192;
 /// The count of messages after which a session is renewed.
-const REKEY: u64 = 1 << 60;
+pub(crate) const REKEY: u64 = 1 << 60;
 /// How far a counter may lie behind the next one.
 const WINDOW: u64 = 8_192;
 

@@ -4,7 +4,7 @@ use crate::maker::Maker;
 use crate::random::Random;
 
 /// Lines that stand for themselves.
-const ODD: [&str; 43] = [
+const ODD: [&str; 50] = [
     "",
     " ",
     "\t",
@@ -41,6 +41,13 @@ const ODD: [&str; 43] = [
     "recv 1 0 0 d 1",
     "look 1 0",
     "wake 0",
+    "settle",
+    "settle 0",
+    "settle 0 0 0",
+    "settle 0 18446744073709551616",
+    "settle 18446744073709551616 0",
+    "Settle 0 0",
+    "settled 0 0",
     "event 0",
     "next 0",
     "missing 4294967296",

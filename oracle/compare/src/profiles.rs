@@ -93,7 +93,7 @@ const WINDOW_MOVES: &[(u64, Move)] = &[
     (10, Move::Missing),
     (2, Move::Hello),
     (1, Move::Send),
-    (1, Move::Wake),
+    (3, Move::Wake),
 ];
 const HANDSHAKE_MOVES: &[(u64, Move)] = &[
     (10, Move::Init),

@@ -2,12 +2,13 @@
 
 use std::collections::BTreeMap;
 use std::fmt;
+use std::ops::Range;
 
 use oracle::Call;
 
-use crate::told::Told;
+use crate::told::Replay;
 
-/// Counts of call words, refusal numbers, events, verdicts, skips, last heard times, of the indices told ahead and then used by the Rust, of the
+/// Counts of call words, refusal numbers, events, verdicts, skips, last heard times, of the wakings of settlings, of the indices told ahead and then used by the Rust, of the
 /// types read and the headers written, and of the log's callouts and records.
 #[derive(Default)]
 pub struct Tally {
@@ -20,6 +21,10 @@ pub struct Tally {
     heard: BTreeMap<&'static str, u64>,
     /// The times of the handshake messages that made the tunnel's sessions, by the local index.
     made: BTreeMap<u32, u64>,
+    /// The settlings by the number of wakings.
+    woke: BTreeMap<String, u64>,
+    /// The settlings by how their time stood to the deadline before them.
+    settled: BTreeMap<&'static str, u64>,
     /// The indices told ahead, by the call that then allocated them.
     told: BTreeMap<&'static str, u64>,
     /// The same ones, by the numbers that the allocation took.
@@ -59,6 +64,10 @@ impl Tally {
                     *self.skips.entry(skip_kind(word)).or_default() += 1;
                 }
             }
+            (Some("ok"), "settle") => {
+                let wakings = parts.nth(1).unwrap_or_default().to_string();
+                *self.woke.entry(wakings).or_default() += 1;
+            }
             (Some("ok"), "datagram") => {
                 let kind = parts.take(2).collect::<Vec<_>>().join(" ");
                 *self.datagrams.entry(kind).or_default() += 1;
@@ -96,10 +105,16 @@ impl Tally {
         }
     }
 
-    /// Counts an index that was told ahead and then used by the Rust.
-    pub(crate) fn count_told(&mut self, told: &Told) {
-        *self.told.entry(told.call).or_default() += 1;
-        *self.tries.entry(told.tries).or_default() += 1;
+    /// Counts, among these lines, each index that was told ahead and then used by the Rust, and how each settling stood to the deadline.
+    pub(crate) fn count_replay(&mut self, replay: &Replay, lines: Range<usize>) {
+        for told in replay.told.iter().filter(|told| lines.contains(&told.at)) {
+            *self.told.entry(told.call).or_default() += 1;
+            *self.tries.entry(told.tries).or_default() += 1;
+        }
+        let settled = replay.settled.iter();
+        for settled in settled.filter(|settled| lines.contains(&settled.at)) {
+            *self.settled.entry(settled.place).or_default() += 1;
+        }
     }
 
     /// Counts a callout that was appended, or a walk with its callouts and records.
@@ -154,6 +169,8 @@ impl fmt::Display for Tally {
         writeln!(f, "verdicts:  {}", list(&self.verdicts))?;
         writeln!(f, "skips:     {}", list(&self.skips))?;
         writeln!(f, "heard:     {}", list(&self.heard))?;
+        writeln!(f, "woke:      {}", list(&self.woke))?;
+        writeln!(f, "settled:   {}", list(&self.settled))?;
         let told: u64 = self.told.values().sum();
         let by_call = list(&self.told);
         writeln!(f, "told:      {told} as the Rust then used them: {by_call}")?;
@@ -202,5 +219,23 @@ mod tests {
         }
 
         assert_eq!(list(&tally.heard), "at first 2, later 1, none 2");
+    }
+
+    #[test]
+    fn settlings_are_counted_by_their_wakings() {
+        let mut tally = Tally::default();
+
+        for (line, answer) in [
+            ("settle 0 0", "no 2"),
+            ("new 256 0 0", "ok"),
+            ("settle 0 0", "ok woke 0"),
+            ("settle 0 540000000000", "ok woke 1"),
+            ("settle 0 540000000000", "ok woke 0"),
+            ("settle 0 0", "no 13"),
+        ] {
+            tally.count(line.as_bytes(), answer.as_bytes());
+        }
+
+        assert_eq!(list(&tally.woke), "0 2, 1 1");
     }
 }

@@ -1,6 +1,9 @@
-//! Document 02's note 7 executed: the index told just before a call that allocates one is the index that the Rust then uses.
+//! Document 02's note 7 executed: the index told just before a call that allocates one is the index that the Rust then uses. Beside it stands how
+//! each settling stood to the deadline.
 
 use oracle::{Answer, Call, Driver};
+
+use crate::settled::{Settled, settled};
 
 /// A call directly after an `ahead` that allocated an index on the Rust.
 pub(crate) struct Told {
@@ -16,11 +19,25 @@ pub(crate) struct Told {
     pub(crate) holds: bool,
 }
 
+/// What came of a script on the Rust.
+#[derive(Default)]
+pub(crate) struct Replay {
+    pub(crate) told: Vec<Told>,
+    pub(crate) settled: Vec<Settled>,
+}
+
+impl Replay {
+    /// Whether every index was told as the Rust then used it.
+    pub(crate) fn holds(&self) -> bool {
+        self.told.iter().all(|told| told.holds)
+    }
+}
+
 /// Makes the calls of a script on the Rust, those that only ask left out, and holds the answers of a program to each index that the Rust allocates
 /// directly after an `ahead`.
-pub(crate) fn told(lines: &[Vec<u8>], answers: &[Vec<u8>]) -> Vec<Told> {
+pub(crate) fn replay(lines: &[Vec<u8>], answers: &[Vec<u8>]) -> Replay {
     let mut driver = Driver::new();
-    let mut found = Vec::new();
+    let mut found = Replay::default();
     let mut asked = false;
 
     for (at, line) in lines.iter().enumerate() {
@@ -29,12 +46,17 @@ pub(crate) fn told(lines: &[Vec<u8>], answers: &[Vec<u8>]) -> Vec<Told> {
         let Some(call) = call.filter(may_change_the_rust) else {
             continue;
         };
+        if let Call::Settle { jitter, time } = call {
+            let settled = settled(&mut driver, jitter, time, at);
+            found.settled.extend(settled);
+            continue;
+        }
         if !after_ahead || !call.may_allocate() {
             let _ = driver.call(call);
             continue;
         }
         let answer = answers.get(at - 1).map_or(&[][..], Vec::as_slice);
-        found.extend(allocated(&mut driver, call, at, answer));
+        found.told.extend(allocated(&mut driver, call, at, answer));
     }
 
     found
@@ -82,6 +104,7 @@ fn may_change_the_rust(call: &Call) -> bool {
             | Call::Send { .. }
             | Call::Recv { .. }
             | Call::Wake { .. }
+            | Call::Settle { .. }
             | Call::Event
     )
 }
@@ -122,7 +145,8 @@ mod tests {
         let mut answers: Vec<Vec<u8>> = SCRIPT.map(|(_, answer)| answer.into()).to_vec();
         answers[at] = answer.into();
 
-        told(&lines, &answers)
+        replay(&lines, &answers)
+            .told
             .iter()
             .map(|told| (told.at, told.call, told.holds))
             .collect()

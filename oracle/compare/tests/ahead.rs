@@ -73,7 +73,8 @@ impl Met {
         told: Answer,
     ) {
         let after = driver.last_index().expect("a tunnel");
-        if matches!(call, Call::New { .. }) || after == last {
+        let other = matches!(call, Call::New { .. } | Call::Settle { .. });
+        if other || after == last {
             return;
         }
         let Answer::Ahead { index, tries } = told else {

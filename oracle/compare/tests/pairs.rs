@@ -49,7 +49,7 @@ fn pairs_reach_every_call_and_refusal() {
         }
     }
 
-    assert_eq!(words.len(), 14, "{words:?}");
+    assert_eq!(words.len(), 15, "{words:?}");
     assert_eq!(refusals, (1..=13).collect());
 }
 

@@ -61,7 +61,7 @@ fn scripts_reach_everything() {
         }
     }
 
-    assert_eq!(met.calls.len(), 25, "{:?}", met.calls);
+    assert_eq!(met.calls.len(), 26, "{:?}", met.calls);
     assert_eq!(
         met.refusals,
         (1..=19).filter(|number| *number != 14).collect()

@@ -28,6 +28,15 @@ impl Tunnel {
         !self.events.is_empty()
     }
 
+    /// The Rust's own next deadline, queued events disregarded; none once expired.
+    pub(crate) fn deadline(&self) -> Option<Instant> {
+        if self.is_expired() {
+            return None;
+        }
+
+        self.next_deadline()
+    }
+
     /// What `read` finds in the newest initiation that is queued; each event is taken and queued again in its order.
     pub(crate) fn newest_initiation<T>(&mut self, read: impl Fn(&Datagram) -> T) -> Option<T> {
         let events: Vec<Event> = std::iter::from_fn(|| self.events.pop_front()).collect();

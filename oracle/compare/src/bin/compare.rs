@@ -1,12 +1,12 @@
 //! Runs two programs on the same scripts, compares their answers line by line and holds each index that the first told ahead to the Rust:
-//! compare A B [--seeds FROM..TO] [--manner D] [--exhaustive N] [--datagrams] [--gaps] [--log] [--indices] [--ahead] [--lines M] [--stop] [--no-cut]
+//! compare A B [--seeds FROM..TO] [--manner D] [--exhaustive N] [--datagrams] [--gaps] [--log] [--indices] [--ahead] [--settle] [--lines M] [--stop] [--no-cut]
 
 use std::env;
 use std::process::ExitCode;
 
 use compare::{
     Comparison, Exhaustive, Script, datagram_scripts, gap_scripts, index_scripts, log_scripts,
-    make_script, profile_name,
+    make_script, make_settle_script, profile_name,
 };
 
 /// What to compare.
@@ -20,6 +20,7 @@ struct Options {
     log: bool,
     indices: bool,
     ahead: bool,
+    settle: bool,
     lines: usize,
     stop: bool,
     cut: bool,
@@ -28,7 +29,7 @@ struct Options {
 fn main() -> ExitCode {
     let Some(options) = options() else {
         eprintln!(
-            "usage: compare A B [--seeds FROM..TO] [--manner D] [--exhaustive N] [--datagrams] [--gaps] [--log] [--indices] [--ahead] [--lines M] [--stop] [--no-cut]"
+            "usage: compare A B [--seeds FROM..TO] [--manner D] [--exhaustive N] [--datagrams] [--gaps] [--log] [--indices] [--ahead] [--settle] [--lines M] [--stop] [--no-cut]"
         );
         return ExitCode::from(2);
     };
@@ -36,7 +37,7 @@ fn main() -> ExitCode {
     let (from, to) = options.seeds;
     let seeds = (from..to)
         .filter(|seed| options.manner.is_none_or(|digit| seed % 10 == digit))
-        .map(|seed| of_seed(seed, options.lines, options.ahead));
+        .map(|seed| of_seed(seed, &options));
     let words = Exhaustive::new(options.exhaustive)
         .enumerate()
         .map(|(at, script)| (format!("word {at}"), script));
@@ -54,13 +55,16 @@ fn main() -> ExitCode {
     ExitCode::from(u8::from(comparison.differences() > 0))
 }
 
-/// The script of a seed with the name it is reported by, and where `ahead` says so with the next index asked for before every call that may
-/// allocate one.
-fn of_seed(seed: u64, lines: usize, ahead: bool) -> (String, Script) {
+/// The script of a seed with the name it is reported by, where the options say so one mostly about settlings, and with the next index asked for
+/// before every call that may allocate one.
+fn of_seed(seed: u64, options: &Options) -> (String, Script) {
     let name = format!("seed {seed} ({})", profile_name(seed));
-    let script = make_script(seed, lines);
+    let script = match options.settle {
+        true => make_settle_script(seed, options.lines),
+        false => make_script(seed, options.lines),
+    };
 
-    match ahead {
+    match options.ahead {
         true => (name, script.with_ahead()),
         false => (name, script),
     }
@@ -79,6 +83,7 @@ fn options() -> Option<Options> {
         log: false,
         indices: false,
         ahead: false,
+        settle: false,
         lines: 150,
         stop: false,
         cut: true,
@@ -114,6 +119,7 @@ fn options() -> Option<Options> {
                 chosen = true;
             }
             "--ahead" => options.ahead = true,
+            "--settle" => options.settle = true,
             "--manner" => options.manner = Some(arguments.next()?.parse().ok()?),
             "--lines" => options.lines = arguments.next()?.parse().ok()?,
             "--stop" => options.stop = true,

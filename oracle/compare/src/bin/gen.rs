@@ -1,5 +1,5 @@
 //! Writes the script of a seed, or all datagram, gap, log or index scripts one after another, or few of the last two kinds:
-//! gen [--ahead] SEED [LINES] | gen --datagrams | gen --gaps | gen --log | gen --short-log | gen --indices | gen --short-indices
+//! gen [--ahead | --settle] SEED [LINES] | gen --datagrams | gen --gaps | gen --log | gen --short-log | gen --indices | gen --short-indices
 
 use std::env;
 use std::io::{self, BufWriter, Write};
@@ -7,7 +7,7 @@ use std::process;
 
 use compare::{
     Script, datagram_scripts, gap_scripts, index_scripts, log_scripts, make_script,
-    short_index_scripts, short_log_scripts,
+    make_settle_script, short_index_scripts, short_log_scripts,
 };
 
 /// The length of a script where none is given.
@@ -17,7 +17,7 @@ fn main() -> io::Result<()> {
     let arguments: Vec<String> = env::args().skip(1).collect();
     let Some(lines) = lines(&arguments) else {
         eprintln!(
-            "usage: gen [--ahead] SEED [LINES] | gen --datagrams | gen --gaps | gen --log | gen --short-log | gen --indices | gen --short-indices"
+            "usage: gen [--ahead | --settle] SEED [LINES] | gen --datagrams | gen --gaps | gen --log | gen --short-log | gen --indices | gen --short-indices"
         );
         process::exit(2);
     };
@@ -40,16 +40,19 @@ fn lines(arguments: &[String]) -> Option<Vec<Vec<u8>>> {
         [name] if name == "--short-log" => Some(all_lines(short_log_scripts())),
         [name] if name == "--indices" => Some(all_lines(index_scripts())),
         [name] if name == "--short-indices" => Some(all_lines(short_index_scripts())),
-        [name, rest @ ..] if name == "--ahead" => Some(of_seed(rest)?.with_ahead().lines),
-        _ => Some(of_seed(arguments)?.lines),
+        [name, rest @ ..] if name == "--ahead" => {
+            Some(of_seed(make_script, rest)?.with_ahead().lines)
+        }
+        [name, rest @ ..] if name == "--settle" => Some(of_seed(make_settle_script, rest)?.lines),
+        _ => Some(of_seed(make_script, arguments)?.lines),
     }
 }
 
-/// The script of a seed, of the length that is given or of the usual one.
-fn of_seed(arguments: &[String]) -> Option<Script> {
+/// The script that `make` makes of a seed, of the length that is given or of the usual one.
+fn of_seed(make: fn(u64, usize) -> Script, arguments: &[String]) -> Option<Script> {
     match arguments {
-        [seed] => Some(make_script(seed.parse().ok()?, LINES)),
-        [seed, lines] => Some(make_script(seed.parse().ok()?, lines.parse().ok()?)),
+        [seed] => Some(make(seed.parse().ok()?, LINES)),
+        [seed, lines] => Some(make(seed.parse().ok()?, lines.parse().ok()?)),
         _ => None,
     }
 }

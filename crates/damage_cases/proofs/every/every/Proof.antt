@@ -5,11 +5,11 @@ use Rattle.damage_cases.proofs.every.every.Tie as tie
 
 abbrev Inv-loop : tie.InvT-loop
 Inv-loop damage request calls expected tally₀ call₀ tally call =
-    call ≤ 12
+    call ≤ 13
 
 abbrev μ-loop : tie.MeasureT-loop
 μ-loop damage request calls expected tally₀ call₀ tally call =
-    12 - call
+    13 - call
 
 no-cases-requires : tie.Need-no-cases-requires Inv-loop μ-loop
 no-cases-requires c κs = tt
