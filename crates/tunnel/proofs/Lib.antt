@@ -7,6 +7,7 @@ pub mod Deadline
 pub mod Due
 pub mod Ended
 pub mod Exceptions
+pub mod Expired
 pub mod Facts
 pub mod FirstFailing
 pub mod Framed
