@@ -15,7 +15,7 @@ use tunnel::answer::Answer;
 use tunnel::tunnel::{Answered, Tunnel};
 
 // A user of the desk, by the number of his kind.
-#[derive(Drop)]
+#[derive(Clone, Copy)]
 pub struct User {
     pub kind: u64,
 }

@@ -10,7 +10,7 @@ use crate::store::is_store;
 use crate::trailer::{TRAILER_SZ, write_trailer};
 
 // What appending answers: the number that turns it down, or the new used length.
-#[derive(Drop)]
+#[derive(Clone, Copy)]
 pub enum Appended {
     No(u8),
     Used(usize),

@@ -1,4 +1,6 @@
 // The callout log: callouts one behind another in a lent store, each of them records and a trailer that points back.
+#![tactic(auto)]
+
 pub mod append;
 pub mod claims;
 pub mod read;

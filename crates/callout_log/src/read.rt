@@ -10,14 +10,14 @@ use crate::store::is_store;
 use crate::trailer::{Trailer, records_before, trailer_before};
 
 // What reading answers: the number that turns the log down, or how many callouts it has.
-#[derive(Drop)]
+#[derive(Clone, Copy)]
 pub enum Walked {
     No(u8),
     Callouts(usize),
 }
 
 // What a walk over the trailers finds: one that breaks its rule, or the numbers of callouts and of records.
-#[derive(Drop)]
+#[derive(Clone, Copy)]
 pub(crate) enum Trailers {
     Broken,
     Found(usize, usize),

@@ -11,7 +11,7 @@ pub const RECORD_SZ: usize = 32;
 pub const TIME_LIMIT: u64 = 4000000000000000000;
 
 // A report of a callout.
-#[derive(Drop)]
+#[derive(Clone, Copy)]
 pub struct Record {
     pub time: u64,
     pub counter: u64,

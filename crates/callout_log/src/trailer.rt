@@ -8,7 +8,7 @@ use endian::little_endian::{read_u32, read_u64, write_u32, write_u64};
 pub const TRAILER_SZ: usize = 16;
 
 // What a trailer says: the count of records, or that it breaks its rule.
-#[derive(Drop)]
+#[derive(Clone, Copy)]
 pub enum Trailer {
     Broken,
     Records(u32),

@@ -11,7 +11,7 @@ use crate::store::{copy, is_store, zero, zero_u32, zero_u64};
 use crate::trailer::records_before;
 
 // What viewing answers: the number that turns it down, or how many bytes of the view there are.
-#[derive(Drop)]
+#[derive(Clone, Copy)]
 pub enum Viewed {
     No(u8),
     Bytes(usize),

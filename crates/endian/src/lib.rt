@@ -1,2 +1,4 @@
 // Numbers in bytes.
+#![tactic(auto)]
+
 pub mod little_endian;

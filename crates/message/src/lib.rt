@@ -1,5 +1,7 @@
 // The datagrams of a tunnel, after src/message.rs and whitepaper section 5.4: what one that came off the air says, and the header
 // of a data message.
+#![tactic(auto)]
+
 ghost use Rattle.std.specs.Prelude.{◌≡◌};
 ghost use Rattle.message.specs.Message.{read_initiation, read_response, read_cookie_reply, read_data, read_datagram, EncryptedPart, WritesHeader};
 ghost use Rattle.message.specs.Laws.{DatagramLaw, HeaderInstance, HeaderLaw};
@@ -37,7 +39,7 @@ pub const AEAD_TAG_SZ: usize = 16;
 pub const DATA_OVERHEAD_SZ: usize = DATA_HEADER_SZ + AEAD_TAG_SZ;
 
 // What a datagram says.
-#[derive(Drop)]
+#[derive(Clone, Copy)]
 pub enum ReceivedMessage {
     // The number that turns the datagram away.
     No(u8),
@@ -48,7 +50,7 @@ pub enum ReceivedMessage {
 }
 
 // What writing a header answers: that number 2 turns the call down, or that it is done.
-#[derive(Drop)]
+#[derive(Clone, Copy)]
 pub enum Written {
     Invalid,
     Done,

@@ -18,7 +18,7 @@ pub const KEEPALIVE: u8 = 1;
 pub const FAILED: u8 = 2;
 
 // What the messages of a batch have brought about so far.
-#[derive(Drop)]
+#[derive(Clone, Copy)]
 pub struct Progress {
     // The window's next expected counter.
     pub next: u64,
@@ -29,7 +29,7 @@ pub struct Progress {
 }
 
 // A message's verdict, how many counters it skipped, and the progress with it.
-#[derive(Drop)]
+#[derive(Clone, Copy)]
 pub struct Finished {
     pub verdict: u8,
     pub skipped: u64,
@@ -37,7 +37,7 @@ pub struct Finished {
 }
 
 // What a batch answers: the number that turns it down, or its session afterwards and what its messages brought about.
-#[derive(Drop)]
+#[derive(Clone, Copy)]
 pub enum Received {
     Rejected(u8),
     Judged(Session, Progress),

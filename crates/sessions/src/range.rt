@@ -5,7 +5,7 @@ ghost use Rattle.sessions.specs.Range.{ends_above_limit, split_off};
 use crate::session::REJECT_AFTER_MESSAGES;
 
 // Consecutive counters granted for messages to one peer.
-#[derive(Drop)]
+#[derive(Clone, Copy)]
 pub struct Range {
     // The peer's index.
     pub peer: u32,
@@ -14,7 +14,7 @@ pub struct Range {
 }
 
 // What cutting a range answers: that number 2 turns the call down, nothing, or the two parts.
-#[derive(Drop)]
+#[derive(Clone, Copy)]
 pub enum Split {
     Invalid,
     Whole,

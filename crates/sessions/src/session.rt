@@ -24,7 +24,7 @@ pub const KEEPALIVE_TIMEOUT: u64 = 10_000_000_000;
 pub const REKEY_TIMEOUT: u64 = 5_000_000_000;
 
 // A time that may be missing: the Rust's `Option<Instant>`.
-#[derive(Drop)]
+#[derive(Clone, Copy)]
 pub enum Time {
     Never,
     At(u64),
@@ -64,14 +64,14 @@ pub fn earlier(a: Time, b: Time) -> Time
 }
 
 // Our role in the handshake that established a session.
-#[derive(Drop)]
+#[derive(Clone, Copy)]
 pub enum Role {
     Initiator,
     Responder,
 }
 
 // One slot's record. An empty slot holds what `Session::empty` gives.
-#[derive(Drop)]
+#[derive(Clone, Copy)]
 pub struct Session {
     pub filled: bool,
     // How many sessions were inserted before this one.
@@ -93,7 +93,7 @@ pub struct Session {
 }
 
 // What a reservation answers: the first counter and the session that has counted it, or that too few are left.
-#[derive(Drop)]
+#[derive(Clone, Copy)]
 pub enum Reserved {
     TooFew,
     First(u64, Session),

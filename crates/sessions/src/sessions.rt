@@ -8,21 +8,21 @@ use crate::session::{Role, Session, Time, earlier};
 use crate::store::{missing_of, zero, zero_slot};
 
 // What a lookup answers.
-#[derive(Drop)]
+#[derive(Clone, Copy)]
 pub enum Found {
     Nothing,
     Got(Session),
 }
 
 // The current sending session's index, if one was selected.
-#[derive(Drop)]
+#[derive(Clone, Copy)]
 pub enum Selected {
     Unset,
     Index(u32),
 }
 
 // The slots, the selected index and the two counts that give a new session its local index and its id.
-#[derive(Drop)]
+#[derive(Clone, Copy)]
 pub struct Sessions {
     pub slots: [Session; 8],
     pub current: Selected,
@@ -33,28 +33,28 @@ pub struct Sessions {
 }
 
 // The local index that the next allocation gives, and how many numbers it takes.
-#[derive(Drop)]
+#[derive(Clone, Copy)]
 pub struct Ahead {
     pub index: u32,
     pub tries: u8,
 }
 
 // The sessions with the local index that was allocated.
-#[derive(Drop)]
+#[derive(Clone, Copy)]
 pub struct Allocated {
     pub sessions: Sessions,
     pub index: u32,
 }
 
 // The sessions without those that were due, and the current one if it was among them.
-#[derive(Drop)]
+#[derive(Clone, Copy)]
 pub struct Expired {
     pub sessions: Sessions,
     pub current: Found,
 }
 
 // A missing report: the number of window counters that are not committed, or the number that turns the call down.
-#[derive(Drop)]
+#[derive(Clone, Copy)]
 pub enum Missing {
     Refused(u8),
     Count(u64),

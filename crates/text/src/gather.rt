@@ -3,7 +3,7 @@ ghost use Rattle.std.specs.Prelude.{◌≤◌, length};
 ghost use Rattle.text.specs.Place.{Onward};
 
 // A line so far: how many bytes of the buffer it has, or that the buffer was too small.
-#[derive(Drop)]
+#[derive(Clone, Copy)]
 pub struct Gathered {
     pub len: usize,
     pub long: bool,

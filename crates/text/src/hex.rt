@@ -6,7 +6,7 @@ ghost use Rattle.text.specs.Text.{Puts};
 use crate::text::put;
 
 // A word that was read into a buffer: how many bytes stand at its front.
-#[derive(Drop)]
+#[derive(Clone, Copy)]
 pub enum Hex {
     Unreadable,
     Held(usize),

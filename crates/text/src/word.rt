@@ -4,14 +4,14 @@ ghost use Rattle.text.specs.Place.{Onward};
 ghost use Rattle.text.specs.Number.{with_digit, number_of};
 
 // A number that may not be readable.
-#[derive(Drop)]
+#[derive(Clone, Copy)]
 pub enum Number {
     Unreadable,
     Value(u64),
 }
 
 // A field of a line, and the position after it.
-#[derive(Drop)]
+#[derive(Clone, Copy)]
 pub enum Field {
     Unread,
     Read(u64, usize),

@@ -4,7 +4,7 @@ use sessions::range::Range;
 use sessions::session::Time;
 
 // What a call answers.
-#[derive(Drop)]
+#[derive(Clone, Copy)]
 pub enum Answer {
     // The number that turns the call down.
     No(u8),

@@ -12,7 +12,7 @@ use sessions::session::Time;
 use sessions::sessions::{Missing, Sessions};
 
 // The Rust's `Tunnel`, save `TimeLastUpdate`.
-#[derive(Drop)]
+#[derive(Clone, Copy)]
 pub struct Control {
     pub handshake: Handshake,
     pub sessions: Sessions,
@@ -23,7 +23,7 @@ pub struct Control {
 }
 
 // What an operation leaves behind and answers, whether it raises the greatest time, and whether it ticks `TimeLastUpdate`.
-#[derive(Drop)]
+#[derive(Clone, Copy)]
 pub struct Out {
     pub control: Control,
     pub answer: Answer,

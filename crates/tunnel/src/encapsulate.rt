@@ -9,14 +9,14 @@ use sessions::session::{Reserved, Session};
 use sessions::sessions::Found;
 
 // A keepalive: its peer index and counter, or none for want of a session.
-#[derive(Drop)]
+#[derive(Clone, Copy)]
 pub enum Datagram {
     Skipped,
     Sent(u32, u64),
 }
 
 // The control after a keepalive.
-#[derive(Drop)]
+#[derive(Clone, Copy)]
 pub struct Encrypted {
     pub control: Control,
     pub keepalive: Datagram,

@@ -1,7 +1,7 @@
 // The events of a tunnel.
 
 // An action for the caller, which `poll_event` hands out.
-#[derive(Drop)]
+#[derive(Clone, Copy)]
 pub enum Event {
     // No event: what an unused place of the ring holds.
     Empty,

@@ -7,7 +7,7 @@ use crate::timers::COOKIE_EXPIRATION_TIME;
 use sessions::session::{Role, Session, Time, due_by};
 
 // How far a handshake that we started has come.
-#[derive(Drop)]
+#[derive(Clone, Copy)]
 pub enum HandshakeState {
     None,
     // An initiation awaiting a response.
@@ -17,7 +17,7 @@ pub enum HandshakeState {
 }
 
 // The message whose cookie reply is awaited, and the cookie that is held.
-#[derive(Drop)]
+#[derive(Clone, Copy)]
 pub struct Cookies {
     // Whether a message was sent whose cookie reply is awaited: the Rust's `last_mac1`.
     pub last_mac1: bool,
@@ -28,7 +28,7 @@ pub struct Cookies {
 }
 
 // Handshake state and cookie tracking for one peer.
-#[derive(Drop)]
+#[derive(Clone, Copy)]
 pub struct Handshake {
     // Keeps the previous initiation available for delayed responses.
     pub previous: HandshakeState,
@@ -37,14 +37,14 @@ pub struct Handshake {
 }
 
 // What a handshake message answers: the number that turns it down, or the handshake after it and the new session.
-#[derive(Drop)]
+#[derive(Clone, Copy)]
 pub enum Completed {
     Failed(u8),
     Opened(Handshake, Session),
 }
 
 // What a cookie reply answers: the number that turns it down, or the handshake that has stored the cookie.
-#[derive(Drop)]
+#[derive(Clone, Copy)]
 pub enum Cookie {
     Unusable(u8),
     Stored(Handshake),

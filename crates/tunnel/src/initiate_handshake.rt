@@ -8,7 +8,7 @@ use crate::timers::get_or;
 use sessions::session::Time;
 
 // The control after an initiation was sent, and its local index.
-#[derive(Drop)]
+#[derive(Clone, Copy)]
 pub struct Initiated {
     pub control: Control,
     pub local_index: u32,

@@ -1,5 +1,7 @@
 // A tunnel: `tunnel::Tunnel` has one method for each call, with the checks that precede what the Rust's own tunnel does, which is the `control::Control` of
 // the other modules. They are named after the Rust's files and the functions of src/tunnel.rs, save `settle`, which the Rust does not have.
+#![tactic(auto)]
+
 pub mod answer;
 pub mod arguments;
 pub mod claims;

@@ -5,13 +5,13 @@ ghost use Rattle.tunnel.specs.RingBuffer.{RingWithin, new_ring, ring_is_empty, s
 use crate::event::Event;
 
 // One place of the ring.
-#[derive(Drop)]
+#[derive(Clone, Copy)]
 pub struct Slot {
     pub event: Event,
 }
 
 // The places, that of the oldest event, and how many events there are.
-#[derive(Drop)]
+#[derive(Clone, Copy)]
 pub struct RingBuffer {
     pub slots: [Slot; 16],
     pub head: usize,
@@ -19,7 +19,7 @@ pub struct RingBuffer {
 }
 
 // The ring without its oldest event, and that event.
-#[derive(Drop)]
+#[derive(Clone, Copy)]
 pub struct Popped {
     pub events: RingBuffer,
     pub event: Event,

@@ -15,14 +15,14 @@ pub const COOKIE_EXPIRATION_TIME: u64 = 120_000_000_000;
 pub const MAX_JITTER: u64 = 333_000_000;
 
 // The persistent keepalive's interval in seconds, if one is set.
-#[derive(Drop)]
+#[derive(Clone, Copy)]
 pub enum Interval {
     Off,
     Every(u64),
 }
 
 // When what last happened, in nanoseconds, from which the deadlines are reckoned.
-#[derive(Drop)]
+#[derive(Clone, Copy)]
 pub struct Timers {
     // When the last handshake completed, even if its session is not in use.
     pub time_last_handshake_completed: u64,

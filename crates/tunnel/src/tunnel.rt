@@ -18,7 +18,7 @@ use sessions::store::zero;
 pub const TIME_LIMIT: u64 = 4_000_000_000_000_000_000;
 
 // A point-to-point WireGuard connection, without keys and without the store of its windows.
-#[derive(Drop)]
+#[derive(Clone, Copy)]
 pub struct Tunnel {
     pub control: Control,
     // `TimeLastUpdate`: when the timers were last updated.
@@ -28,7 +28,7 @@ pub struct Tunnel {
 }
 
 // The tunnel after a call, and the call's answer.
-#[derive(Drop)]
+#[derive(Clone, Copy)]
 pub struct Answered {
     pub tunnel: Tunnel,
     pub answer: Answer,

@@ -1,5 +1,7 @@
 // The anti-replay window: a sliding bitmap over 128 lent words that refuses replays and takes messages out of order.
 // The caller keeps `next`, one past the highest committed counter.
+#![tactic(auto)]
+
 ghost use Rattle.std.specs.Prelude.{◌≡◌, ℕ, ◌+◌, ◌-◌, ◌*◌, ◌/◌, ◌%◌, ◌^◌, ◌<◌, ◌≤◌, List, [], length};
 ghost use Rattle.base.specs.Lists.{zeros};
 ghost use Rattle.window.specs.History.{Represents, JudgedLaw, StandingLaw, WindowLaw};
@@ -22,7 +24,7 @@ const N_BITS: u64 = 8192;
 
 // What committing a counter answers: its verdict (0, 9 or 10; 2 where the words are not 128), the next expected counter, and how many
 // counters it skipped.
-#[derive(Drop)]
+#[derive(Clone, Copy)]
 pub struct Marked {
     pub verdict: u8,
     pub next: u64,

@@ -1,0 +1,9 @@
+use Rattle.std.proofs.Common.{◌≡◌, ◌-◌, ◌%◌, rules}
+use Rattle.window.proofs.Steps.{Run, run_begins, run_word}
+use Rattle.window.proofs.clear_words.Given as goal
+
+abbrev pub invariant-loop-i : goal.invariant-loop-i
+invariant-loop-i l = (l.i % 64 ≡ 0) × (Run l.initial.words l.words l.from l.to l.i)
+
+abbrev pub decreases-loop-i : goal.decreases-loop-i
+decreases-loop-i l = l.to - l.i
