@@ -1,6 +1,6 @@
 //! Answers each call of a script with the original tunnel, and adds document 01's checks 1, 2
 //! and 13, the greatest time and document 02's missing report, skips and last heard times; it is settled by single wakings, the next index is told,
-//! datagrams are read, headers written and a log kept beside it; guarded calls are held to the rights of their users.
+//! datagrams are read, headers written and a log kept beside it.
 
 use std::fmt;
 use std::num::NonZeroUsize;
@@ -22,7 +22,6 @@ use crate::message::{
     ReplayCheck, TransportData,
 };
 use crate::recount::Recount;
-use crate::rights::{self, TRAINER};
 use crate::script::{self, Call, Opening};
 use crate::session::access::{SessionView, decrypted_batch};
 use crate::session::{PendingEncapsulate, Plaintext};
@@ -209,18 +208,8 @@ impl Driver {
             | Call::Poke { .. }
             | Call::Peek { .. }
             | Call::Append { .. }
-            | Call::Walk { .. }
-            | Call::View { .. } => self.log_call(call),
-            Call::As { users, call } => self.guarded_call(&users, *call),
+            | Call::Walk { .. } => self.log_call(call),
             _ => held.call(call),
-        }
-    }
-
-    /// Answers a guarded call: 20 before anything else, then as the call by itself is answered; a trainer reads the log as it is shown to one.
-    fn guarded_call(&mut self, users: &[u64], call: Call) -> Result<Answer, Number> {
-        match rights::user_of(users, &call)? {
-            TRAINER => log_read(&rights::shown_to_trainer(&self.log)?, &call),
-            _ => self.call(call),
         }
     }
 
@@ -235,7 +224,10 @@ impl Driver {
                 return Ok(Answer::Bytes(bytes.to_vec()));
             }
             Call::Append { reports } => return self.log.append(&reports).map(Answer::Used),
-            Call::Walk { .. } | Call::View { .. } => return log_read(&self.log, &call),
+            Call::Walk { counts, records } => {
+                let callouts = self.log.walk(counts as usize, records as usize)?;
+                return Ok(Answer::Log(callouts));
+            }
             _ => unreachable!("the tunnel answers every other call"),
         }
 
@@ -321,11 +313,7 @@ impl Held {
             | Call::Poke { .. }
             | Call::Peek { .. }
             | Call::Append { .. }
-            | Call::Walk { .. }
-            | Call::View { .. }
-            | Call::As { .. } => {
-                unreachable!("the driver answers `new`, the log's calls and guarded ones")
-            }
+            | Call::Walk { .. } => unreachable!("the driver answers `new` and the log's calls"),
             Call::Init { time } => self.init(time),
             Call::Restart { time } => self.restart(time),
             Call::Resp {
@@ -655,21 +643,6 @@ impl Held {
     /// A time of the original as the script writes it.
     fn time(&self, instant: Instant) -> u64 {
         instant.duration_since(self.base).as_nanos() as u64
-    }
-}
-
-/// Answers a call that reads a log.
-fn log_read(log: &Log, call: &Call) -> Result<Answer, Number> {
-    match call {
-        Call::Walk { counts, records } => {
-            let callouts = log.walk(*counts as usize, *records as usize)?;
-            Ok(Answer::Log(callouts))
-        }
-        Call::View { len } => {
-            let bytes = log.view(*len as usize)?;
-            Ok(Answer::Bytes(bytes.to_vec()))
-        }
-        _ => unreachable!("no other call reads the log"),
     }
 }
 

@@ -9,7 +9,6 @@ mod errors;
 mod log;
 mod log_speed;
 mod recount;
-mod rights;
 mod script;
 mod speed;
 

@@ -95,22 +95,6 @@ impl Log {
     pub(crate) fn walk(&self, counts: usize, records: usize) -> Result<Vec<Vec<Report>>, Number> {
         read(&self.store, self.used, counts, records)
     }
-
-    /// All callouts, the newest first.
-    pub(crate) fn callouts(&self) -> Result<Vec<Vec<Report>>, Number> {
-        self.walk(usize::MAX, usize::MAX)
-    }
-
-    /// The bytes of a log that can be read, where so many lent ones hold them (note 9: a controller may read "the whole log").
-    pub(crate) fn view(&self, lent: usize) -> Result<&[u8], Number> {
-        self.callouts()?;
-        let bytes = &self.store[..self.used as usize];
-        if lent < bytes.len() {
-            return Err(BAD_ARGUMENT);
-        }
-
-        Ok(bytes)
-    }
 }
 
 /// The place of so many bytes in a store, if they lie in it.

@@ -12,8 +12,6 @@ const MAX_STORE: u64 = 70_000;
 const MAX_COUNTS: u64 = 4_096;
 /// The most records that a line can lend room for.
 const MAX_RECORDS: u64 = 2_048;
-/// The most bytes that a line can lend for a view of the log.
-const MAX_VIEW: u64 = 65_536;
 
 /// How the opening of a received message came out.
 #[derive(Debug, Clone, Copy, PartialEq, Eq)]
@@ -120,14 +118,6 @@ pub enum Call {
         counts: u64,
         records: u64,
     },
-    View {
-        len: u64,
-    },
-    /// A guarded call: the user, and where that line is guarded itself further users, the outermost first, before the line that is not.
-    As {
-        users: Vec<u64>,
-        call: Box<Call>,
-    },
 }
 
 /// Reads the call of a line without its newline, or nothing where the line cannot be read.
@@ -137,31 +127,15 @@ pub fn read(line: &[u8]) -> Option<Call> {
     }
 
     let mut words = Words::of(line);
-    let call = match words.next()? {
-        b"as" => read_guarded(&mut words)?,
-        name => read_call(name, &mut words)?,
-    };
+    let call = read_call(&mut words)?;
 
     words.end()?;
     Some(call)
 }
 
-/// Reads the user of a guarded line and the line behind it, which may be guarded itself.
-fn read_guarded(words: &mut Words<'_>) -> Option<Call> {
-    let mut users = vec![words.number_64()?];
-    let mut name = words.next()?;
-    while name == b"as" {
-        users.push(words.number_64()?);
-        name = words.next()?;
-    }
-    let call = Box::new(read_call(name, words)?);
-
-    Some(Call::As { users, call })
-}
-
-/// Reads the arguments of the call with this name in their order.
-fn read_call(name: &[u8], words: &mut Words<'_>) -> Option<Call> {
-    Some(match name {
+/// Reads the call's name and its arguments in their order.
+fn read_call(words: &mut Words<'_>) -> Option<Call> {
+    Some(match words.next()? {
         b"new" => Call::New {
             index: words.number_32()?,
             keepalive: words.number_64()?,
@@ -255,9 +229,6 @@ fn read_call(name: &[u8], words: &mut Words<'_>) -> Option<Call> {
         b"walk" => Call::Walk {
             counts: words.number_up_to(MAX_COUNTS)?,
             records: words.number_up_to(MAX_RECORDS)?,
-        },
-        b"view" => Call::View {
-            len: words.number_up_to(MAX_VIEW)?,
         },
         _ => return None,
     })

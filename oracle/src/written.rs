@@ -23,8 +23,8 @@ impl Call {
     /// Whether the call may allocate the local index that is told just before it; settling may drop the current session first.
     pub fn may_allocate(&self) -> bool {
         matches!(
-            self.unguarded(),
-            Some(Call::Init { .. } | Call::Restart { .. } | Call::Hello { .. } | Call::Wake { .. })
+            self,
+            Call::Init { .. } | Call::Restart { .. } | Call::Hello { .. } | Call::Wake { .. }
         )
     }
 
@@ -42,7 +42,6 @@ impl Call {
             | Call::Look { time, .. }
             | Call::Wake { time, .. }
             | Call::Settle { time, .. } => Some(time),
-            Call::As { call, .. } => call.time_mut(),
             Call::Event
             | Call::Next
             | Call::Missing { .. }
@@ -57,8 +56,7 @@ impl Call {
             | Call::Poke { .. }
             | Call::Peek { .. }
             | Call::Append { .. }
-            | Call::Walk { .. }
-            | Call::View { .. } => None,
+            | Call::Walk { .. } => None,
         }
     }
 }
@@ -131,11 +129,6 @@ impl fmt::Display for Call {
                 reports.iter().try_for_each(|report| write!(f, " {report}"))
             }
             Call::Walk { counts, records } => write!(f, "walk {counts} {records}"),
-            Call::View { len } => write!(f, "view {len}"),
-            Call::As { users, call } => {
-                users.iter().try_for_each(|user| write!(f, "as {user} "))?;
-                write!(f, "{call}")
-            }
         }
     }
 }

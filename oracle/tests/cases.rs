@@ -40,7 +40,7 @@ fn every_case_has_the_answers_beside_it() {
         count += 1;
     }
 
-    assert!(count >= 21);
+    assert!(count >= 20);
 }
 
 #[test]
@@ -79,25 +79,4 @@ fn a_batch_of_more_than_1024_messages_is_turned_down_by_1_then_2() {
         answers(script.as_bytes()),
         format!("ok\nok resp 1 5\nno 2\nno 1\nok missing 0\n{verdicts}")
     );
-}
-
-#[test]
-fn a_guarded_line_may_be_as_long_and_as_deep_as_any_other() {
-    let deep = |end: &str| format!("new 1 0 0\n{}{end}\nnext\n", "as 1 ".repeat(13_106));
-    let long = |len: usize| format!("new 1 0 0\nas 1 {}next\n", " ".repeat(len - 9));
-    let next = "ok at 540000000000\n";
-
-    assert_eq!(
-        answers(deep("next").as_bytes()),
-        format!("ok\nno 20\n{next}")
-    );
-    for end in ["nexts", "as", "as 1", "as x next", "as 1 next"] {
-        assert_eq!(
-            answers(deep(end).as_bytes()),
-            format!("ok\nno 2\n{next}"),
-            "{end}"
-        );
-    }
-    assert_eq!(answers(long(65_536).as_bytes()), format!("ok\n{next}"));
-    assert_eq!(answers(long(65_537).as_bytes()), "ok\nno 2\n");
 }

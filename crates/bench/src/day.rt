@@ -12,7 +12,7 @@ const TRIP: u64 = 1_000_000;
 const JITTER: u64 = 200_000_000;
 
 // The tunnel, the time, the current session's local index and id, and a number that depends on each answer.
-#[derive(Drop)]
+#[derive(Clone, Copy)]
 struct Day {
     tunnel: Tunnel,
     now: u64,

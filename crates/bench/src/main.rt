@@ -1,6 +1,8 @@
 // Makes one call over and over, so that its instructions can be counted: standard input has the case's letter, the pattern of the
 // counters, the length of a batch, and then a byte for each turn. It writes four numbers of the tunnel as the turns left it, or, where
 // datagrams or logs are read or written, a sum.
+#![tactic(auto)]
+
 mod begin;
 mod counters;
 mod datagrams;
@@ -18,7 +20,7 @@ use libc::{STDIN_FILENO, STDOUT_FILENO};
 use tunnel::tunnel::{Answered, Tunnel};
 
 // What the input asks for.
-#[derive(Drop)]
+#[derive(Clone, Copy)]
 struct Asked {
     case: u8,
     pattern: u8,

@@ -6,7 +6,7 @@ use mathlib.Core.List.{List, [], ◌++◌, append_assoc, append-nil}
 use Prim.Native.Nat.{ℕ, ◌+◌, ◌-◌, ◌*◌, ◌≤◌, ◌<◌}
 use native.Mathlib.Omega.{arith}
 use lib.Dec.{leb}
-use lib.ListN.{length, take, drop, length_append, length-drop, length-map, drop_of_length-le}
+use lib.ListN.{length, take, drop, length-append, length-drop, length-map, drop_of_length-le}
 use lib.Seq.{drop-drop, length-take-le}
 use borrow.Author.Tests.{leb-true, leb-false, le-leb, lt-leb}
 use borrow.Rule.Slice.PartMut.{put_mid}
@@ -53,7 +53,7 @@ unfolding callout_bytes
 callout_written bytes records trailer r l er et =
     let size : length records ≡ 32 * length r.times = ap length er ∙ records_size (records_of r) ∙ ap (λ (m : ℕ). 32 * m) (length_reports r) in
     let all : length (records ++ drop (32 * length r.times) bytes) ≡ 16 + 32 * length r.times =
-    length_append records (drop (32 * length r.times) bytes) ∙ omega (arith, length-drop (32 * length r.times) bytes) in
+    length-append records (drop (32 * length r.times) bytes) ∙ omega (arith, length-drop (32 * length r.times) bytes) in
     let none : drop (length (records ++ drop (32 * length r.times) bytes) - 32 * length r.times) (drop (32 * length r.times) bytes) ≡ [] =
     drop_of_length-le (drop (32 * length r.times) bytes) {i = length (records ++ drop (32 * length r.times) bytes) - 32 * length r.times}
     (omega (arith, length-drop (32 * length r.times) bytes)) in

@@ -2,12 +2,12 @@
 -- Assumes nothing.
 use mathlib.Core.Path.{◌≡◌, refl, ap, sym, subst, ◌∙◌}
 use mathlib.Core.Bool.{Bool, true}
-use mathlib.Core.List.{List, [], ◌∷◌, ◌++◌, append-nil, append_assoc, map, map-append, map_map}
+use mathlib.Core.List.{List, [], ◌∷◌, ◌++◌, append-nil, append_assoc, map, map-append, map-map}
 use Prim.Native.Nat.{ℕ, ◌+◌, ◌-◌, ◌*◌, ◌≤◌, ◌<◌}
 use native.Mathlib.Numerals.{add-one}
 use native.Mathlib.Omega.{arith}
 use lib.Dec.{leb}
-use lib.ListN.{length, set, take, drop, length_append, length-drop, length-map, take-append-drop}
+use lib.ListN.{length, set, take, drop, length-append, length-drop, length-map, take-append-drop}
 use lib.Seq.{length-take-le, set_split, take_at, drop_at, drop-drop}
 use borrow.Author.Tests.{leb-true}
 use borrow.Rule.Slice.PartMut.{put_mid}
@@ -43,7 +43,7 @@ module _ (came all : List ℕ) where
 
     module _ (values rest : List ℕ) (n : ℕ) (p : Part came now all (values ++ rest) at) (size : length values ≡ n) where
       part_room : at + n ≤ length now
-      part_room = omega (arith, p.room, length_append values rest)
+      part_room = omega (arith, p.room, length-append values rest)
 
       part_more : (part last : List ℕ) → part ≡ values → last ≡ put_mid at (at + n - at) now part → Part came last all rest (at + n)
       part_more part last e q =
@@ -51,11 +51,11 @@ module _ (came all : List ℕ) where
           let stored : last ≡ take at now ++ values ++ drop (at + n) now =
           q ∙ rw (width, e, drop-drop n at now) (sym (append_assoc (take at now) values (drop (at + n) now))) in
           let front : length (take at now ++ values) ≡ at + n =
-          length_append (take at now) values ∙ omega (arith, length-take-le at now (omega (arith, part_room)), size) in
-          let behind : at + length (values ++ rest) ≡ at + n + length rest = omega (arith, length_append values rest) in
+          length-append (take at now) values ∙ omega (arith, length-take-le at now (omega (arith, part_room)), size) in
+          let behind : at + length (values ++ rest) ≡ at + n + length rest = omega (arith, length-append values rest) in
           record {
-            room = rw (stored, length_append (take at now ++ values) (drop (at + n) now)) (omega (arith, front, length-drop (at + n) now, p.room, behind));
-            long = rw (stored, length_append (take at now ++ values) (drop (at + n) now)) (omega (arith, front, length-drop (at + n) now, part_room, p.long));
+            room = rw (stored, length-append (take at now ++ values) (drop (at + n) now)) (omega (arith, front, length-drop (at + n) now, p.room, behind));
+            long = rw (stored, length-append (take at now ++ values) (drop (at + n) now)) (omega (arith, front, length-drop (at + n) now, part_room, p.long));
             told = p.told ∙ rw (
               behind,
               stored,
@@ -126,11 +126,11 @@ module _ (bytes c₀ t₀ k₀ s₀ l₀ v₀ : List ℕ) where
         let own : (value : ℕ → ℕ) (came now : List ℕ) → Part came now (map value (places bytes)) (map value (places_before bytes (from bytes end))) at → now ≡ over (map value (places bytes)) came =
         λ value came now p. part_ends came (map value (places bytes)) now at (subst (λ (e : List ℕ). Part came now (map value (places bytes)) (map value (places_before bytes e)) at) none p) in
         rw (
-          map_map (λ (r : Record). r.time) (record_at bytes) (places bytes),
-          map_map (λ (r : Record). r.counter) (record_at bytes) (places bytes),
-          map_map (λ (r : Record). r.session_id) (record_at bytes) (places bytes),
-          map_map (λ (r : Record). r.local_index) (record_at bytes) (places bytes),
-          map_map (λ (r : Record). r.verdict) (record_at bytes) (places bytes),
+          map-map (λ (r : Record). r.time) (record_at bytes) (places bytes),
+          map-map (λ (r : Record). r.counter) (record_at bytes) (places bytes),
+          map-map (λ (r : Record). r.session_id) (record_at bytes) (places bytes),
+          map-map (λ (r : Record). r.local_index) (record_at bytes) (places bytes),
+          map-map (λ (r : Record). r.verdict) (record_at bytes) (places bytes),
           ← part_ends c₀ (map (count_before bytes) (ends bytes)) c callouts
               (subst (λ (e : List ℕ). Part c₀ c (map (count_before bytes) (ends bytes)) (map (count_before bytes) e) callouts) none y.counts),
           ← own (λ (p : ℕ). (record_at bytes p).time) t₀ t y.times,

@@ -5,7 +5,7 @@ use mathlib.Core.List.{List, [], ◌∷◌, ◌++◌, append_assoc}
 use Prim.Native.Nat.{ℕ, ◌+◌, ◌*◌, ◌/◌, ◌%◌, ◌^◌, ◌<◌}
 use native.Mathlib.Nat.{zero-add}
 use native.Mathlib.Omega.{arith}
-use lib.ListN.{length, get_or, take, drop, length_append, get_or-append}
+use lib.ListN.{length, get_or, take, drop, length-append, get_or-append}
 use lib.Seq.{take_at, drop_at, get_or-append-add}
 use Rattle.base.specs.Lists.{zeros}
 use Rattle.base.proofs.Zeros.{zeros_at}
@@ -107,7 +107,7 @@ trailer_size_lem count = refl
 pub callout_size_lem : (records : List Record) → length (callout_bytes records) ≡ 16 + 32 * length records
 unfolding callout_bytes
 callout_size_lem records =
-    length_append (records_bytes records) (trailer_bytes (length records)) ∙ omega (arith, records_size records, trailer_size_lem (length records))
+    length-append (records_bytes records) (trailer_bytes (length records)) ∙ omega (arith, records_size records, trailer_size_lem (length records))
 
 -- the record behind others
 record_at_lem : (before after : List Record) (r : Record) → take 32 (drop (32 * length before) (callout_bytes (before ++ r ∷ after))) ≡ record_bytes r

@@ -6,7 +6,7 @@ use mathlib.Core.List.{List, [], ◌∷◌, ◌++◌}
 use Prim.Native.Nat.{ℕ, zero, suc, ◌+◌, ◌-◌, ◌*◌, ◌≤◌, ◌<◌}
 use native.Mathlib.Omega.{arith}
 use lib.Dec.{leb, ltb}
-use lib.ListN.{length, get_or, take, drop, length_append, length-drop, get_or-append}
+use lib.ListN.{length, get_or, take, drop, length-append, length-drop, get_or-append}
 use lib.Seq.{length-take-le, get_or-append-add, get_or-take, get_or-drop}
 use borrow.Author.Tests.{lt-leb, le-leb, leb-true, lt-ltb, le-ltb, ltb-true, ltb-false}
 use Rattle.base.specs.Choice.{choose, ◌and◌}
@@ -59,8 +59,8 @@ module _ (at : ℕ) (bytes : List ℕ) (h : at + 28 ≤ length bytes) where
   pub hide_length : length (hide_at at bytes) ≡ length bytes
   unfolding hide_at
   hide_length =
-      length_append (take (at + 8) bytes) (zeros 20 ++ drop (at + 28) bytes)
-      ∙ omega (arith, front_long, length_append (zeros 20) (drop (at + 28) bytes), length_zeros 20, length-drop (at + 28) bytes)
+      length-append (take (at + 8) bytes) (zeros 20 ++ drop (at + 28) bytes)
+      ∙ omega (arith, front_long, length-append (zeros 20) (drop (at + 28) bytes), length_zeros 20, length-drop (at + 28) bytes)
 
   pub hide_byte : (i : ℕ) → get_or (hide_at at bytes) i 0 ≡ choose (in_field at i) 0 (get_or bytes i 0)
   unfolding hide_at choose

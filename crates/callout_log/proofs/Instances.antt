@@ -4,7 +4,7 @@ use mathlib.Core.Path.{◌≡◌, refl, ap, subst, ◌∙◌}
 use mathlib.Core.List.{List, [], ◌∷◌, ◌++◌, append-nil}
 use Prim.Native.Nat.{ℕ, zero, suc, ◌+◌, ◌≤◌}
 use native.Mathlib.Omega.{arith}
-use lib.ListN.{length, drop, replicate, length_append, length-replicate, drop_of_length-le}
+use lib.ListN.{length, drop, replicate, length-append, length-replicate, drop_of_length-le}
 use Rattle.base.specs.Choice.{choose}
 use Rattle.base.specs.Lists.{up_from, zeros}
 use Rattle.base.proofs.Zeros.{length_zeros}
@@ -77,15 +77,15 @@ module _ (a b : ℕ) (r : Record) where
   two_size : length (log_bytes two_of) ≡ distance b + distance a
   unfolding log_bytes
   two_size =
-      length_append (callout_bytes (replicate b r)) (callout_bytes (replicate a r))
+      length-append (callout_bytes (replicate b r)) (callout_bytes (replicate a r))
       ∙ omega (arith, callout_size_lem (replicate b r), callout_size_lem (replicate a r), length-replicate b r, length-replicate a r)
 
   -- the number of their records
   two_records : length (records_in two_of) ≡ a + b
   unfolding records_in
   two_records =
-      length_append (replicate a r) (replicate b r ++ [])
-      ∙ omega (arith, length_append (replicate b r) [], length-replicate a r, length-replicate b r)
+      length-append (replicate a r) (replicate b r ++ [])
+      ∙ omega (arith, length-append (replicate b r) [], length-replicate a r, length-replicate b r)
 
 -- the callouts fill 65,536 bytes
 full_size_lem : length (log_bytes full_callouts) ≡ 65536

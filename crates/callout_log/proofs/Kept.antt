@@ -7,7 +7,7 @@ use Prim.Native.Nat.{ℕ, zero, suc, ◌+◌, ◌-◌, ◌*◌, ◌≤◌, ◌<�
 use native.Mathlib.Omega.{arith}
 use lib.Dec.{leb}
 use lib.ListN.{length, take, drop, length-map}
-use lib.Seq.{take_add}
+use lib.Seq.{take-add}
 use borrow.Author.Tests.{leb-true}
 use Rattle.base.specs.Choice.{choose, ◌and◌}
 use Rattle.endian.specs.LittleEndian.{Bytes}
@@ -110,7 +110,7 @@ module _ (log : List ℕ) where
           let last : start + 32 * n ≡ end - 16 = omega (arith, trailer.within) in
           let size : end ≡ start + (32 * n + 16) = omega (arith, trailer.within) in
           ap (λ (k : ℕ). take k log) size
-          ∙ take_add start (32 * n + 16) log
+          ∙ take-add start (32 * n + 16) log
           ∙ ap (λ (l : List ℕ). take start log ++ l)
           (two_parts log (32 * n) 16 start
           ∙ λ j. (callout_kept e).bytes j ++ (ap (λ (k : ℕ). take 16 (drop k log)) last ∙ trailer.bytes ∙ ap trailer_bytes (sym (callout_count end))) j)

@@ -3,7 +3,7 @@
 -- Assumes nothing.
 use mathlib.Core.Path.{◌≡◌, refl, ap, sym, ◌∙◌}
 use mathlib.Core.Bool.{true, false}
-use mathlib.Core.List.{List, ◌∷◌, ◌++◌, map, map_map}
+use mathlib.Core.List.{List, ◌∷◌, ◌++◌, map, map-map}
 use Prim.Native.Nat.{ℕ, zero, suc, ◌+◌, ◌-◌, ◌*◌, ◌≤◌, ◌<◌}
 use native.Mathlib.Omega.{arith}
 use lib.ListN.{length, get_or, take, drop, length-drop}
@@ -170,9 +170,9 @@ module _ (log other : List ℕ) (same : length other ≡ length log) where
     unfolding callout_before
     callout_same =
         ap (λ (n : ℕ). map blanked (map (record_at other) (places_from (end - distance n) n))) count_same
-        ∙ map_map blanked (record_at other) (places_from first count)
+        ∙ map-map blanked (record_at other) (places_from first count)
         ∙ own.blank
-        ∙ sym (map_map blanked (record_at log) (places_from first count))
+        ∙ sym (map-map blanked (record_at log) (places_from first count))
 
     same_step : SameUpTo first → SameUpTo end
     same_step s =

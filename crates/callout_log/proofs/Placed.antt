@@ -7,7 +7,7 @@ use Prim.Native.Nat.{ℕ, ◌+◌, ◌-◌, ◌^◌, ◌≤◌, ◌<◌}
 use native.Mathlib.Nat.{add-zero}
 use native.Mathlib.Omega.{arith}
 use lib.Dec.{eqb}
-use lib.ListN.{length, take, drop, length_append}
+use lib.ListN.{length, take, drop, length-append}
 use lib.Seq.{take_at, drop_at}
 use borrow.Author.Tests.{le-leb, eq-eqb}
 use Rattle.base.specs.Choice.{choose, ◌and◌}
@@ -39,7 +39,7 @@ module _ (bytes : List ℕ) where
         let rest : List ℕ = to_le_bytes width n ++ ys in
         let from : drop (at + k) bytes ≡ rest =
         ap (drop (at + k)) (e ∙ sym (append_assoc xs front rest))
-        ∙ drop_at (xs ++ front) rest (at + k) (length_append xs front ∙ omega arith) in
+        ∙ drop_at (xs ++ front) rest (at + k) (length-append xs front ∙ omega arith) in
         ap from_le_bytes (ap (take width) from ∙ take_at (to_le_bytes width n) ys width (little_endian_law.size width n))
         ∙ little_endian_law.number width n b
 
@@ -113,7 +113,7 @@ module _ (bytes : List ℕ) where
       let behind : List ℕ = records_bytes records ++ ys in
       let here : bytes ≡ xs ++ (record_bytes r ++ behind) = e ∙ ap (λ (l : List ℕ). xs ++ l) (append_assoc (record_bytes r) (records_bytes records) ys) in
       let later : RecordsAt (at + 32) records =
-      records_read records (xs ++ record_bytes r) ys (at + 32) (length_append xs (record_bytes r) ∙ omega (arith, record_size_lem r)) all
+      records_read records (xs ++ record_bytes r) ys (at + 32) (length-append xs (record_bytes r) ∙ omega (arith, record_size_lem r)) all
       (here ∙ sym (append_assoc xs (record_bytes r) behind)) in
       record {
         are = λ j. record_read xs at h r behind report here j ∷ later.are j;

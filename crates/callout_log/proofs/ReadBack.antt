@@ -5,7 +5,7 @@ use mathlib.Core.Bool.{true}
 use mathlib.Core.List.{List, [], ◌∷◌, ◌++◌, map, map-append, append_assoc, append-nil}
 use Prim.Native.Nat.{ℕ, ◌+◌, ◌-◌, ◌*◌, ◌≤◌}
 use native.Mathlib.Omega.{arith}
-use lib.ListN.{length, length_append, length-map}
+use lib.ListN.{length, length-append, length-map}
 use borrow.Author.Tests.{le-leb}
 use Rattle.base.specs.Choice.{choose}
 use Rattle.callout_log.specs.declared.record.Record.{Record}
@@ -76,7 +76,7 @@ module _ (bytes : List ℕ) where
 
       -- the place of its trailer
       trailer_place : length (log ++ records_bytes callout) ≡ length log + 32 * length callout
-      trailer_place = length_append log (records_bytes callout) ∙ ap (λ (n : ℕ). length log + n) (records_size callout)
+      trailer_place = length-append log (records_bytes callout) ∙ ap (λ (n : ℕ). length log + n) (records_size callout)
 
       -- a callout of reports behind others
       callout_reads : (end : ℕ) → end ≡ length log + distance (length callout) → end ≤ length bytes → All Report callout
@@ -100,8 +100,8 @@ module _ (bytes : List ℕ) where
         let log : List ℕ = log_bytes older in
         let here : bytes ≡ log ++ (callout_bytes callout ++ rest) = e ∙ append_assoc log (callout_bytes callout) rest in
         callout_reads log rest callout here (length (log ++ callout_bytes callout))
-        (length_append log (callout_bytes callout) ∙ ap (λ (n : ℕ). length log + n) (callout_size_lem callout))
-        (omega (arith, ap length e ∙ length_append (log ++ callout_bytes callout) rest)) reports older
+        (length-append log (callout_bytes callout) ∙ ap (λ (n : ℕ). length log + n) (callout_size_lem callout))
+        (omega (arith, ap length e ∙ length-append (log ++ callout_bytes callout) rest)) reports older
         (reads_back older (callout_bytes callout ++ rest) all here)
 
 -- lists with room pass the test

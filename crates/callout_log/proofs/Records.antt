@@ -7,7 +7,7 @@ use Prim.Native.Nat.{ℕ, ◌+◌, ◌-◌, ◌*◌, ◌/◌, ◌≤◌, ◌<◌
 use native.Mathlib.Numerals.{add-one}
 use native.Mathlib.Omega.{arith}
 use lib.Dec.{eqb}
-use lib.ListN.{length, get_or, take, drop, length_append, length-drop, drop_of_length-le}
+use lib.ListN.{length, get_or, take, drop, length-append, length-drop, drop_of_length-le}
 use lib.Seq.{drop-cons}
 use borrow.Author.Tests.{lt-leb, le-leb, eq-eqb, ne_eqb, eqb-true, eqb-false}
 use borrow.Rule.Slice.PartMut.{put_mid}
@@ -121,9 +121,9 @@ module _ (bytes time counter session index verdict : List ℕ) (r : Record) wher
       let lc : length counter ≡ 8 = ap length ec ∙ little_endian_law.size 8 r.counter in
       let ls : length session ≡ 8 = ap length es ∙ little_endian_law.size 8 r.session_id in
       let li : length index ≡ 4 = ap length ei ∙ little_endian_law.size 4 r.local_index in
-      let two : length (time ++ counter) ≡ 16 = length_append time counter ∙ omega arith in
-      let three : length (time ++ counter ++ session) ≡ 24 = length_append (time ++ counter) session ∙ omega arith in
-      let four : length (time ++ counter ++ session ++ index) ≡ 28 = length_append (time ++ counter ++ session) index ∙ omega arith in
+      let two : length (time ++ counter) ≡ 16 = length-append time counter ∙ omega arith in
+      let three : length (time ++ counter ++ session) ≡ 24 = length-append (time ++ counter) session ∙ omega arith in
+      let four : length (time ++ counter ++ session ++ index) ≡ 28 = length-append (time ++ counter ++ session) index ∙ omega arith in
       let none : drop 4 (drop 4 (drop 8 (drop 8 (drop 8 (drop 0 bytes))))) ≡ [] =
       drop_of_length-le (drop 4 (drop 8 (drop 8 (drop 8 bytes)))) {i = 4}
       (omega (arith, length-drop 4 (drop 8 (drop 8 (drop 8 bytes))), length-drop 8 (drop 8 (drop 8 bytes)), length-drop 8 (drop 8 bytes), length-drop 8 bytes)) in

@@ -2,7 +2,7 @@
 -- Assumes nothing.
 use mathlib.Core.Path.{◌≡◌, refl, ap, sym, ◌∙◌}
 use mathlib.Core.Bool.{true, false}
-use mathlib.Core.List.{List, [], ◌∷◌, ◌++◌, map, map-append, map_map}
+use mathlib.Core.List.{List, [], ◌∷◌, ◌++◌, map, map-append, map-map}
 use Prim.Native.Nat.{ℕ, zero, suc, ◌+◌, ◌-◌, ◌*◌, ◌≤◌, ◌<◌}
 use native.Mathlib.Omega.{arith}
 use lib.ListN.{length, get_or}
@@ -61,7 +61,7 @@ module _ (log : List ℕ) where
   unfolding callout_before choose
   callout_blank end h t l z =
       own_blank (count_before log end) (end - distance (count_before log end)) (omega (arith, points_back log end t)) (λ i e. z i (covers_step log end h t i ∙ rw e))
-      ∙ sym (map_map blanked (record_at log) (places_from (end - distance (count_before log end)) (count_before log end)))
+      ∙ sym (map-map blanked (record_at log) (places_from (end - distance (count_before log end)) (count_before log end)))
 
   -- its callouts up to there are blank
   callouts_blank : (end : ℕ) → every (is_trailer log) (from log end) ≡ true → end ≤ length log → ((i : ℕ) → covers (up_to log end) i ≡ true → get_or log i 0 ≡ 0)
@@ -114,10 +114,10 @@ module _ (log : List ℕ) (good : every (is_trailer log) (ends log) ≡ true) wh
         counts = ap (map (count_before other)) (there (length other) long) ∙ same.counts;
         records = ap (λ (n : ℕ). every (is_record other) (places_before other (from other n))) long ∙ ap (every (is_record other)) same.places ∙ same.records;
         callouts =
-            map_map (map blanked) (callout_before other) (from other (length other))
+            map-map (map blanked) (callout_before other) (from other (length other))
             ∙ ap (map (λ (e : ℕ). map blanked (callout_before other e))) (there (length other) long)
             ∙ same.callouts
-            ∙ sym (map_map (map blanked) (callout_before log) (from log (length log)));
+            ∙ sym (map-map (map blanked) (callout_before log) (from log (length log)));
       }
 
   -- the log seen with its fields hidden
@@ -136,7 +136,7 @@ module _ (log : List ℕ) (good : every (is_trailer log) (ends log) ≡ true) wh
       let v : List ℕ = hide_all (places log) log in
       callouts_blank v (length v) hidden_same.trailers (omega arith)
       (λ i e. hidden.byte i ∙ rw (ap (λ (l : List ℕ). covers l i) (sym hidden_same.kept) ∙ e))
-      ∙ sym (map_map (map blanked) (callout_before v) (from v (length v)))
+      ∙ sym (map-map (map blanked) (callout_before v) (from v (length v)))
       ∙ hidden_same.callouts
 
   -- and its records

@@ -2,10 +2,10 @@
 -- Assumes nothing.
 use mathlib.Core.Path.{◌≡◌, refl, ap, sym, ◌∙◌}
 use mathlib.Core.Bool.{Bool, true, false, not, true≢false}
-use mathlib.Core.List.{List, [], ◌∷◌, ◌++◌, map, map_map}
+use mathlib.Core.List.{List, [], ◌∷◌, ◌++◌, map, map-map}
 use Prim.Native.Nat.{ℕ, ◌+◌, ◌≤◌, ◌<◌}
 use native.Mathlib.Omega.{arith}
-use lib.ListN.{length, take, drop, length_append, length-map}
+use lib.ListN.{length, take, drop, length-append, length-map}
 use lib.Seq.{drop_at, length-take-le}
 use borrow.Author.Tests.{lt-leb, le-leb}
 use Rattle.base.specs.Choice.{choose}
@@ -115,14 +115,14 @@ unfolding listing blanked
 lists_hidden counts records n l c t k s i v k' s' i' size e b =
     λ j. record {
       counts = ap (λ (x : Lists). x.counts) e j;
-      times = (ap (λ (x : Lists). x.times) e ∙ ap (λ (values : List ℕ). over values l.times) (sym (map_map (λ (r : Record). r.time) blanked records))) j;
+      times = (ap (λ (x : Lists). x.times) e ∙ ap (λ (values : List ℕ). over values l.times) (sym (map-map (λ (r : Record). r.time) blanked records))) j;
       counters = (hides k' k l.counters (map (λ (r : Record). r.counter) records) (map (λ (r : Record). r.counter) (map blanked records)) b.counters (ap (λ (x : Lists). x.counters) e)
           (length-map records (λ (r : Record). r.counter)) (blank_field (λ (r : Record). r.counter) (λ (r : Record). refl) records)) j;
       session_ids = (hides s' s l.session_ids (map (λ (r : Record). r.session_id) records) (map (λ (r : Record). r.session_id) (map blanked records)) b.session_ids (ap (λ (x : Lists). x.session_ids) e)
           (length-map records (λ (r : Record). r.session_id)) (blank_field (λ (r : Record). r.session_id) (λ (r : Record). refl) records)) j;
       local_indices = (hides i' i l.local_indices (map (λ (r : Record). r.local_index) records) (map (λ (r : Record). r.local_index) (map blanked records)) b.local_indices (ap (λ (x : Lists). x.local_indices) e)
           (length-map records (λ (r : Record). r.local_index)) (blank_field (λ (r : Record). r.local_index) (λ (r : Record). refl) records)) j;
-      verdicts = (ap (λ (x : Lists). x.verdicts) e ∙ ap (λ (values : List ℕ). over values l.verdicts) (sym (map_map (λ (r : Record). r.verdict) blanked records))) j;
+      verdicts = (ap (λ (x : Lists). x.verdicts) e ∙ ap (λ (values : List ℕ). over values l.verdicts) (sym (map-map (λ (r : Record). r.verdict) blanked records))) j;
     }
   where
     hides : (after before came values blank : List ℕ) → after ≡ over (zeros n) before → before ≡ over values came → length values ≡ length records → blank ≡ zeros (length records)
@@ -216,7 +216,7 @@ module _ (log : List ℕ) (good : every (is_trailer log) (ends log) ≡ true) (l
 -- the lists that a good read leaves have room for its records
 over_room : (n : ℕ) (values list now : List ℕ) → length values ≡ n → now ≡ over values list → n ≤ length now
 unfolding over
-over_room n values list now h e = omega (arith, h, ap length e ∙ length_append values (drop (length values) list))
+over_room n values list now h e = omega (arith, h, ap length e ∙ length-append values (drop (length values) list))
 
 module _ (log : List ℕ) (good : every (is_trailer log) (ends log) ≡ true) (l : Lists) (r : Walked) (n found : ℕ) (c t k s i v : List ℕ)
     (e : reading r (lists_of c t k s i v) ≡ read_bytes log l) (q : r ≡ Callouts found) (h : n ≡ length (places log)) where

@@ -7,7 +7,7 @@ use Prim.Native.Nat.{ℕ, ◌+◌, ◌-◌, ◌^◌, ◌≤◌, ◌<◌}
 use native.Mathlib.Omega.{arith}
 use lib.Dec.{leb, eqb, ltb}
 use lib.ListN.{length, get_or, take, drop, length-take, length-drop, take-append-drop, get_or-eq_default}
-use lib.Seq.{take_add, drop-drop, length-take-le, get_or-take, get_or-drop}
+use lib.Seq.{take-add, drop-drop, length-take-le, get_or-take, get_or-drop}
 use borrow.Author.Tests.{eqb-true, leb-true, ltb-true, ltb-false}
 use Rattle.base.specs.Choice.{◌and◌}
 use Rattle.endian.specs.LittleEndian.{Bytes, field, from_le_bytes, to_le_bytes}
@@ -40,7 +40,7 @@ module _ (log : List ℕ) where
   -- two parts, one behind the other
   pub two_parts : (first second at : ℕ) → take (first + second) (drop at log) ≡ take first (drop at log) ++ take second (drop (at + first) log)
   two_parts first second at =
-      take_add first second (drop at log) ∙ ap (λ (l : List ℕ). take first (drop at log) ++ take second l) (drop-drop first at log)
+      take-add first second (drop at log) ∙ ap (λ (l : List ℕ). take first (drop at log) ++ take second l) (drop-drop first at log)
 
   module _ (b : Bytes log) where
     -- a number that is read at a place stands there

@@ -6,7 +6,7 @@ use mathlib.Core.List.{List, [], ◌∷◌, ◌++◌, append-nil}
 use Prim.Native.Nat.{ℕ, zero, suc, ◌+◌, ◌-◌, ◌*◌, ◌≤◌, ◌<◌}
 use native.Mathlib.Omega.{arith}
 use lib.Dec.{leb, eqb}
-use lib.ListN.{length, take, drop, length_append, length-drop, drop_of_length-le}
+use lib.ListN.{length, take, drop, length-append, length-drop, drop_of_length-le}
 use borrow.Author.Tests.{lt-leb, le-leb, eq-eqb, ne_eqb, leb-true}
 use borrow.Rule.Slice.PartMut.{put_mid}
 use Rattle.base.specs.Choice.{choose, ◌and◌}
@@ -76,7 +76,7 @@ trailer_written bytes far count last n l ef ec ez =
     let none : drop 4 (drop 4 (drop 8 (drop 0 bytes))) ≡ [] =
     drop_of_length-le (drop 4 (drop 8 bytes)) {i = 4} (omega (arith, length-drop 4 (drop 8 bytes), length-drop 8 bytes)) in
     ap (λ (m : List ℕ). put_mid 12 4 m last) (put_next far (drop 8 (drop 0 bytes)) count 8 4 lf)
-    ∙ put_next (far ++ count) (drop 4 (drop 8 (drop 0 bytes))) last 12 4 (length_append far count ∙ omega arith)
+    ∙ put_next (far ++ count) (drop 4 (drop 8 (drop 0 bytes))) last 12 4 (length-append far count ∙ omega arith)
     ∙ rw (none, append-nil (far ++ count ++ last), ef, ec, ez, zero_bytes 4)
 
 -- what a good trailer says

@@ -5,7 +5,7 @@ use mathlib.Core.Bool.{Bool, true, false}
 use mathlib.Core.List.{List, ◌++◌, map}
 use Prim.Native.Nat.{ℕ, ◌+◌, ◌-◌, ◌≤◌, ◌<◌}
 use native.Mathlib.Omega.{arith}
-use lib.ListN.{length, get_or, take, drop, length_append, length-drop, length-map, get_or-append}
+use lib.ListN.{length, get_or, take, drop, length-append, length-drop, length-map, get_or-append}
 use lib.Seq.{get_or-append-add, get_or-drop, get_or-take, length-take-le, take_all, take_at}
 use borrow.Author.Tests.{le-leb, lt-leb}
 use Rattle.base.specs.Choice.{choose}
@@ -215,7 +215,7 @@ module _ (hides : Bool) (store : List ℕ) (used : ℕ) (b : Bytes store) (size 
               number = ap (λ (v : Viewing). viewed_number v.answer) viewed;
               values = ap (λ (v : Viewing). viewed_values v.answer) viewed;
               leaves = refl;
-              size = ap length left_is ∙ length_append shown (drop used bytes) ∙ omega (arith, shown_long, length-drop used bytes);
+              size = ap length left_is ∙ length-append shown (drop used bytes) ∙ omega (arith, shown_long, length-drop used bytes);
               hidden = hidden_byte;
               visible = visible_byte;
               rest = rest_byte;

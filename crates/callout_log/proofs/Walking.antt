@@ -6,7 +6,7 @@ use mathlib.Core.List.{List, [], ◌∷◌, ◌++◌}
 use Prim.Native.Nat.{ℕ, suc, ◌+◌, ◌-◌, ◌*◌, ◌≤◌, ◌<◌}
 use native.Mathlib.Nat.{zero-add}
 use native.Mathlib.Omega.{arith}
-use lib.ListN.{length, length_append}
+use lib.ListN.{length, length-append}
 use Rattle.base.specs.Choice.{choose, ◌and◌}
 use Rattle.callout_log.specs.Record.{is_record}
 use Rattle.callout_log.specs.Trailer.{count_before, distance, is_trailer, trailer_before}
@@ -64,7 +64,7 @@ module _ (bytes : List ℕ) where
                   (ap (λ (m : Trailers). choose (every (is_trailer bytes) (from bytes (end - (16 + 32 * n)))) m NoWalk)
                   (ap (λ (m : ℕ). Found m (records + length (places_from (end - (16 + 32 * n)) n ++ places_before bytes (from bytes (end - (16 + 32 * n)))))) (omega arith)
                   ∙ ap (λ (m : ℕ). Found (callouts + 1 + length (from bytes (end - (16 + 32 * n)))) m)
-                  (omega (arith, length_append (places_from (end - (16 + 32 * n)) n) (places_before bytes (from bytes (end - (16 + 32 * n)))), length_places (end - (16 + 32 * n)) n))));
+                  (omega (arith, length-append (places_from (end - (16 + 32 * n)) n) (places_before bytes (from bytes (end - (16 + 32 * n)))), length_places (end - (16 + 32 * n)) n))));
             }
 
 no_good : (bytes : List ℕ) (end : ℕ) → 0 < end → is_trailer bytes end ≡ false → every (is_trailer bytes) (from bytes end) ≡ false

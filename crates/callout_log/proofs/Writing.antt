@@ -4,7 +4,7 @@ use mathlib.Core.Path.{◌≡◌, refl, ap, sym, ◌∙◌}
 use mathlib.Core.List.{List, [], ◌∷◌, ◌++◌, append-nil, map, map-append}
 use Prim.Native.Nat.{ℕ, ◌+◌, ◌-◌, ◌*◌, ◌≤◌, ◌<◌}
 use native.Mathlib.Omega.{arith}
-use lib.ListN.{length, drop, length_append, length-drop, length-map, drop_of_length-le}
+use lib.ListN.{length, drop, length-append, length-drop, length-map, drop_of_length-le}
 use lib.Seq.{drop-drop}
 use borrow.Rule.Slice.PartMut.{put_mid}
 use Rattle.base.specs.Lists.{up_from}
@@ -58,7 +58,7 @@ module _ (r : Reports) (came : List ℕ) where
         let done : put_mid (32 * i) 32 now part ≡ records_bytes (first_records r (i + 1)) ++ drop (32 * (i + 1)) came =
         put ∙ rw (e, ← next_record r i, drop-drop 32 (32 * i) came, next) in
         let bytes : length (records_bytes (first_records r (i + 1)) ++ drop (32 * (i + 1)) came) ≡ length came =
-        length_append (records_bytes (first_records r (i + 1))) (drop (32 * (i + 1)) came) ∙ omega (arith, length_first r (i + 1), length-drop (32 * (i + 1)) came, y.whole) in
+        length-append (records_bytes (first_records r (i + 1))) (drop (32 * (i + 1)) came) ∙ omega (arith, length_first r (i + 1), length-drop (32 * (i + 1)) came, y.whole) in
         record {
           one = y.one;
           whole = y.whole;

@@ -4,7 +4,7 @@ use mathlib.Core.Path.{◌≡◌, refl, ap, sym, ◌∙◌}
 use mathlib.Core.List.{List, [], ◌∷◌, ◌++◌, map}
 use Prim.Native.Nat.{ℕ, ◌+◌, ◌≤◌}
 use native.Mathlib.Omega.{arith}
-use lib.ListN.{length, take, drop, length_append, length-drop, length-map}
+use lib.ListN.{length, take, drop, length-append, length-drop, length-map}
 use lib.Seq.{take-append_seam, drop-append-add, drop-drop}
 use Rattle.base.specs.Choice.{choose}
 use Rattle.base.proofs.Choice.{known_choice, of_choice}
@@ -85,20 +85,20 @@ module _ (store : List ℕ) where
 
   -- a store that holds a log in its front keeps its length
   filled_size : (log : List ℕ) → length log ≤ length store → length (filled log) ≡ length store
-  filled_size log h = length_append log (drop (length log) store) ∙ omega (arith, length-drop (length log) store)
+  filled_size log h = length-append log (drop (length log) store) ∙ omega (arith, length-drop (length log) store)
 
   -- bytes put behind the log are in the log
   put_behind : (log part : List ℕ) (end : ℕ) → length log + length part ≡ end
       → take (length log) (filled log) ++ part ++ drop end (filled log) ≡ filled (log ++ part)
   put_behind log part end h =
-      let to : length (log ++ part) ≡ end = length_append log part ∙ h in
+      let to : length (log ++ part) ≡ end = length-append log part ∙ h in
       rw (to, ← h, take-append_seam log (drop (length log) store), drop-append-add log (drop (length log) store) (length part), drop-drop (length part) (length log) store)
 
   module _ (callout : List Record) (older : List (List Record)) where
     -- the used length behind a callout
     end_size : length (log_bytes older) + distance (length (reports_of callout).times) ≡ length (log_bytes (callout ∷ older))
     unfolding log_bytes
-    end_size = ap (λ (n : ℕ). length (log_bytes older) + n) (lists_size callout) ∙ sym (length_append (log_bytes older) (callout_bytes callout))
+    end_size = ap (λ (n : ℕ). length (log_bytes older) + n) (lists_size callout) ∙ sym (length-append (log_bytes older) (callout_bytes callout))
 
     -- what an append of the next callout leaves
     next_filled : (end : ℕ) → end ≡ length (log_bytes older) + distance (length (reports_of callout).times)

@@ -12,7 +12,7 @@ use tunnel::timers::{Interval, Timers};
 use tunnel::tunnel::Tunnel;
 
 // A tunnel of the cases, by a field's number and its value.
-#[derive(Drop)]
+#[derive(Clone, Copy)]
 pub struct Damage {
     pub field: u64,
     pub value: u64,

@@ -23,13 +23,13 @@ pub const ANSWERED: u64 = 23;
 pub const NOT_14: u64 = 24;
 
 // The verdict that stands in the list before a call.
-pub const UNJUDGED: u8 = 200;
+const UNJUDGED: u8 = 200;
 
 // The skip that stands in the list before a call.
-pub const UNCOUNTED: u64 = 1311768467463790320;
+const UNCOUNTED: u64 = 1311768467463790320;
 
 // What a call handed back, and whether the store, the verdicts and the skips are as they came.
-#[derive(Drop)]
+#[derive(Clone, Copy)]
 struct Seen {
     answered: Answered,
     kept: bool,

@@ -1,8 +1,9 @@
 // Damaged tunnels and arguments out of range: a damaged tunnel for each clause of number 14, and each call with it; stores and lists
-// of wrong length, a header's too; what number 14 does not look at; the order of the checks; batches that find no live session;
-// missing reports over any words; and the guarded calls for every kind of user. A call that is turned down, and a report, must hand
-// everything back as it came: the tunnel is compared field by field, the store and the verdicts element by element. Lists that are lent
-// for reading only cannot change.
+// of wrong length, a header's too; what number 14 does not look at; the order of the checks; batches that find no live session; and
+// missing reports over any words. A call that is turned down, and a report, must hand everything back as it came: the tunnel is compared
+// field by field, the store and the verdicts element by element. Lists that are lent for reading only cannot change.
+#![tactic(auto)]
+
 mod arguments;
 mod ask;
 mod batches;
@@ -11,7 +12,6 @@ mod creation;
 mod damage;
 mod every;
 mod fields;
-mod guarded;
 mod header;
 mod judge;
 mod order;
@@ -26,7 +26,6 @@ use crate::arguments::argument_groups;
 use crate::batches::batch_groups;
 use crate::clauses::clause_groups;
 use crate::creation::creation_groups;
-use crate::guarded::guarded_groups;
 use crate::header::header_groups;
 use crate::order::order_groups;
 use crate::outside::report_groups;
@@ -39,5 +38,4 @@ fn main() {
     report_groups();
     creation_groups();
     header_groups();
-    guarded_groups();
 }

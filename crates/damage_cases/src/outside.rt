@@ -28,7 +28,7 @@ const OTHERS: u64 = 4;
 const ROWS: u64 = 13;
 
 // A report: a filled slot, the row of its session's next counter, and where the ones are.
-#[derive(Drop)]
+#[derive(Clone, Copy)]
 struct Report {
     slot: u64,
     row: u64,

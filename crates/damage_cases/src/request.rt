@@ -46,7 +46,7 @@ pub const CALLS: u64 = 13;
 pub const MOST: u64 = 18446744073709551615;
 
 // A call and its arguments. Of the store and the lists only so many elements are lent.
-#[derive(Drop)]
+#[derive(Clone, Copy)]
 pub struct Request {
     pub call: u64,
     pub now: u64,

@@ -1,17 +1,15 @@
-// Whether two tunnels, answers or lists are the same, field by field. An enum is compared by the number of its variant and by what the
-// variant holds.
+// Whether two tunnels are the same, field by field. An enum is compared by the number of its variant and by what the variant holds.
 use sessions::session::{Role, Session, Time};
 use sessions::sessions::{Selected, Sessions};
-use tunnel::answer::Answer;
 use tunnel::control::Control;
 use tunnel::event::Event;
 use tunnel::handshake::{Cookies, Handshake, HandshakeState};
 use tunnel::ring_buffer::RingBuffer;
 use tunnel::timers::{Interval, Timers};
-use tunnel::tunnel::{Answered, Tunnel};
+use tunnel::tunnel::Tunnel;
 
 // A variant's number and the two numbers that it holds, 0 where it holds fewer.
-#[derive(Drop)]
+#[derive(Clone, Copy)]
 struct Held {
     variant: u64,
     first: u64,
@@ -306,85 +304,4 @@ pub fn same_tunnel(a: Tunnel, b: Tunnel) -> bool {
         return false;
     }
     same_control(a.control, b.control)
-}
-
-// What a deadline holds, with variants past an event's.
-fn held_by_deadline(deadline: Time) -> Held {
-    match deadline {
-        Time::Never => holding(5, 0, 0),
-        Time::At(at) => holding(6, at, 0),
-    }
-}
-
-// What an answer holds, with variants past an event's and a deadline's; of a grant not the peer's index.
-fn held_by_answer(answer: Answer) -> Held {
-    match answer {
-        Answer::No(number) => holding(7, number as u64, 0),
-        Answer::Done => holding(8, 0, 0),
-        Answer::NoAnswer => holding(9, 0, 0),
-        Answer::Initiation(index) => holding(10, index as u64, 0),
-        Answer::Response(index, peer) => holding(11, index as u64, peer as u64),
-        Answer::Keepalive(peer, counter) => holding(12, peer as u64, counter),
-        Answer::Granted(range) => holding(13, range.first, range.len),
-        Answer::Polled(event) => held_by_event(event),
-        Answer::Deadline(deadline) => held_by_deadline(deadline),
-        Answer::Report(missing) => holding(14, missing, 0),
-        Answer::Woke(wakings) => holding(15, wakings as u64, 0),
-    }
-}
-
-// The peer's index of a grant, 0 for another answer.
-fn granted_peer(answer: Answer) -> u32 {
-    match answer {
-        Answer::Granted(range) => range.peer,
-        _ => 0,
-    }
-}
-
-// Whether two answers are the same.
-fn same_answer(a: Answer, b: Answer) -> bool {
-    if granted_peer(a) != granted_peer(b) {
-        return false;
-    }
-    same_held(held_by_answer(a), held_by_answer(b))
-}
-
-// Whether two calls answered the same and handed back the same tunnel.
-pub fn same_answered(a: Answered, b: Answered) -> bool {
-    let answer = a.answer;
-    let other = b.answer;
-    if same_answer(answer, other) {
-        return same_tunnel(a.tunnel, b.tunnel);
-    }
-    false
-}
-
-// Whether two lists of words are the same.
-pub fn same_words(a: &[u64], b: &[u64]) -> bool {
-    if a.len() != b.len() {
-        return false;
-    }
-    let mut i = 0;
-    while i < a.len() {
-        if a[i] != b[i] {
-            return false;
-        }
-        i = i + 1;
-    }
-    true
-}
-
-// Whether two lists of bytes are the same.
-pub fn same_bytes(a: &[u8], b: &[u8]) -> bool {
-    if a.len() != b.len() {
-        return false;
-    }
-    let mut i = 0;
-    while i < a.len() {
-        if a[i] != b[i] {
-            return false;
-        }
-        i = i + 1;
-    }
-    true
 }

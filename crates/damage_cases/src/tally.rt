@@ -1,7 +1,7 @@
 // The count of cases.
 
 // Cases that were tried, and how many went wrong.
-#[derive(Drop)]
+#[derive(Clone, Copy)]
 pub struct Tally {
     pub cases: u64,
     pub wrong: u64,

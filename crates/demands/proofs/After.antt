@@ -4,7 +4,7 @@ use mathlib.Core.Path.{◌≡◌, refl, ap, sym, ◌∙◌}
 use mathlib.Core.List.{List, [], ◌∷◌, ◌++◌, append_assoc, append-nil}
 use Prim.Native.Nat.{ℕ, ◌+◌, ◌^◌, ◌<◌}
 use native.Mathlib.Omega.{arith}
-use lib.ListN.{length, length_append, get_or-replicate, length-replicate}
+use lib.ListN.{length, length-append, get_or-replicate, length-replicate}
 use Rattle.sessions.proofs.Laws.{empty_law}
 use Rattle.demands.proofs.Held.{Past, no_past, Held}
 use Rattle.tunnel.specs.Control.{new_control}
@@ -44,7 +44,7 @@ assoc_three g a v r = ap (λ (l : List Grant). g ++ l) (sym (append_assoc a v r)
 -- the grants of the first call, and of those that follow
 grants_first : (ins m : List Insertion) (g a v : List Grant) (later : List Made)
     → g ++ (a ++ (v ++ grants_from (length ins + length m) later)) ≡ (g ++ (a ++ v)) ++ grants_from (length (ins ++ m)) later
-grants_first ins m g a v later = rw (length_append ins m) (assoc_three g a v (grants_from (length ins + length m) later))
+grants_first ins m g a v later = rw (length-append ins m) (assoc_three g a v (grants_from (length ins + length m) later))
 
 known_after : (calls : List Call) (ins : List Insertion) (h : ℕ → Past) (g k : List Grant) (polls : List PolledKeepalive) (w : World) → Sound w.tunnel
     → length ins + insertions (made w calls) < 2 ^ 64 → Known ins h g k polls w.tunnel.control w.store → KnownAfter ins h g k polls w calls
@@ -55,8 +55,8 @@ known_after (call ∷ calls) ins h g k polls w s few y =
     let reply : Reply = step w call in
     let m : List Insertion = insertion_by call reply.answer in
     let later : List Made = made reply.world calls in
-    let all : length (m ++ inserted later) ≡ length m + length (inserted later) = length_append m (inserted later) in
-    let more : length (ins ++ m) ≡ length ins + length m = length_append ins m in
+    let all : length (m ++ inserted later) ≡ length m + length (inserted later) = length-append m (inserted later) in
+    let more : length (ins ++ m) ≡ length ins + length m = length-append ins m in
     known_as _ _ _ _ _ _ _ _ _ _ _ (sym (append_assoc ins m (inserted later)))
     (grants_first ins m g (answered_grant (length ins) w reply.answer) (woken_grant w call reply) later)
     (sym (append_assoc k (woken_grant w call reply) (woken_grants later)))

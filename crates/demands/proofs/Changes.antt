@@ -6,7 +6,7 @@ use mathlib.Core.Bool.{Bool, true, false}
 use mathlib.Core.List.{List, [], ◌∷◌, ◌++◌, append-nil}
 use Prim.Native.Nat.{ℕ, ◌+◌, ◌%◌, ◌^◌, ◌≤◌, ◌<◌}
 use native.Mathlib.Omega.{arith}
-use lib.ListN.{length, length-set, length_append}
+use lib.ListN.{length, length-set, length-append}
 use lib.Seq.{get_or-append_seam}
 use borrow.Author.Tests.{eq-eqb}
 use Rattle.base.specs.Choice.{choose}
@@ -130,7 +130,7 @@ module _ (ins : List Insertion) (h : ℕ → Past) (g : List Grant) (s : Session
   then = ins ++ message_in x ∷ []
 
   one_more : length then ≡ length ins + 1
-  one_more = length_append ins (message_in x ∷ [])
+  one_more = length-append ins (message_in x ∷ [])
 
   count_more : (insert s store x).sessions.inserted ≡ length then
   unfolding inserting

@@ -1,15 +1,10 @@
 -- The example's premises hold, and what comes of it is computed.
 -- Assumes nothing.
-use mathlib.Core.Path.{◌≡◌, refl, sym}
-use mathlib.Core.Bool.{true≢false}
+use mathlib.Core.Path.{◌≡◌, refl}
 use Prim.Native.Nat.{ℕ, zero, suc, ◌^◌, ◌≤◌, ◌<◌}
 use lib.ListN.{length, get_or}
 use native.Mathlib.Omega.{arith}
 use lib.Count as count
-use Rattle.access.proofs.Laws.{rights_law}
-use Rattle.access.specs.Laws.Right.{operator_receives}
-use Rattle.access.specs.Rights as rights
-use Rattle.access.specs.User as user
 use Rattle.base.specs.Bits as bits
 use Rattle.base.specs.Choice as choice
 use Rattle.base.specs.First as first
@@ -27,15 +22,10 @@ use Rattle.demands.specs.Calls as calls
 use Rattle.demands.specs.Calls.{created}
 use Rattle.demands.specs.Example as example
 use Rattle.demands.specs.Example.{ExampleLaw}
-use Rattle.demands.specs.Guarded as guarded
-use Rattle.demands.specs.Guarded.Caller.{radio, desk}
-use Rattle.demands.specs.Guarded.Permitted.{own, right}
-use Rattle.demands.specs.Guarded.{Caller, Permitted}
 use Rattle.demands.specs.LastHeard as last_heard
 use Rattle.demands.specs.Made as made
 use Rattle.demands.specs.Made.{insertions}
 use Rattle.demands.specs.Receiving as receiving
-use Rattle.demands.specs.Receiving.{Live}
 use Rattle.demands.specs.Sending as sending
 use Rattle.demands.specs.Wakings as wakings
 use Rattle.sessions.specs.Damage as sessionsDamage
@@ -52,8 +42,6 @@ use Rattle.sessions.specs.Laws as laws
 use Rattle.sessions.specs.Session as session
 use Rattle.sessions.specs.Sessions as sessions
 use Rattle.sessions.specs.Store as store
-use Rattle.sessions.specs.declared.session.Session.{Session}
-use Rattle.sessions.specs.declared.sessions.Found.TheVariants.{Nothing, Got}
 use Rattle.tunnel.specs.Arguments as arguments
 use Rattle.tunnel.specs.Damage.{undamaged}
 use Rattle.tunnel.specs.Tunnel as tunnel
@@ -71,42 +59,31 @@ known_kinds (suc (suc (suc zero))) l = omega arith
 known_kinds (suc (suc (suc (suc zero)))) l = omega arith
 known_kinds (suc (suc (suc (suc (suc i))))) l = absurd (omega arith)
 
--- a controller has no right to receive
-no_receiving : Permitted (desk 1) 1 → ⊥
-unfolding rights.allowed rights.controller_may choice.choose
-no_receiving (right r) = true≢false (sym (rights_law.may 1 1 r))
-
-nothing_got : (x : Session) → Nothing ≡ Got x → ⊥
-nothing_got x e = let z : ◌≡◌ {A = ℕ} 0 1 = cc in omega arith
-
 pub example_law : ExampleLaw
-unfolding laws.commits last_heard.hearing last_heard.heard_from count.ones_in count.ones bits.bit choice.choose sums.sum window.bit_at window.check_bit window.set_bit window.clear_bit window.clears window.advance window.is_invalid window.will_accept window.next_after window.words_after window.skipped_by window.mark_did_receive index.wrapping_increment store.slot_words store.put_slot lists.zeros lists.ones_of store.missing_of sessionsCases.case_time sessionsCases.case_role sessionsCases.case_reserved session.due_by session.least session.earlier session.new_session session.empty_session session.rekey_after_time_on_send session.reject_after_time_on_receive session.expires_at session.expired_at session.should_use_at session.rekey_after_messages_reached session.sending_counter_exhausted session.prepare_packet_data session.reserve_counters session.will_receive sessionsCases.case_found sessionsCases.case_selected sessionsCases.case_missing sessions.empty_slots sessions.new_sessions sessions.in_slot_of sessions.get sessions.put sessions.current_of sessions.in_current_slot sessions.ahead sessions.next_index sessions.inserting sessions.insert sessions.usable sessions.sending_session sessions.is_index sessions.select sessions.set_current sessions.clear sessions.emptied sessions.expired_slot sessions.discard sessions.expire_slot sessions.expire_first sessions.expire first.none_of sessions.slot_expiry sessions.first_expiry sessions.missing sessionsCases.case_received batch.known batch.fits batch.finish_receive_packet_data batch.finish_all batch.receiving_session batch.receive history.verdict_on history.recorded history.recorded_all history.verdicts_on damage.time_holds damage.state_holds damage.in_range damage.interval_holds damage.both_at_most damage.event_holds sessionsDamage.slot_holds sessionsDamage.slots_hold damage.queue_holds damage.events_hold damage.handshake_holds damage.packet_timers_hold damage.data_timers_hold damage.fields_hold damage.timers_hold tunnelCases.case_event tunnelCases.case_state tunnelCases.case_completed tunnelCases.case_cookie handshake.new_handshake handshake.awaits handshake.is_in_progress handshake.in_flight_initiation handshake.set_expired handshake.is_expired handshake.cookie_expiration handshake.clear_cookie handshake.expire_cookie handshake.append_mac1_and_mac2 handshake.initiate_handshake handshake.receive_handshake_initialization handshake.expects handshake.receive_handshake_response handshake.receive_cookie_reply ringBuffer.place_of ringBuffer.empty_places ringBuffer.new_ring ringBuffer.ring_is_empty ringBuffer.store_at ringBuffer.push_back ringBuffer.pop_front ringBuffer.events_from ringBuffer.queued ringBuffer.newest ringBuffer.oldest tunnelCases.case_interval timers.new_timers timers.reject_after_time_of timers.rekey_attempt_deadline timers.rekey_after_time_without_response timers.keepalive_after_time_without_send timers.next_persistent_keepalive timers.clear_timers timers.tick_last_handshake_completed timers.tick_last_handshake_started timers.tick_last_packet_received timers.tick_last_packet_sent timers.tick_last_data_packet_received timers.time_or timers.tick_last_data_packet_sent timers.tick_persistent_keepalive timers.rekey_timeout_of timers.schedule_handshake timers.cancel_scheduled_handshake timers.consume_passive_keepalive timers.tick_accepted timers.tick_response timers.tick_completed timers.tick_initiation answer.number_of answer.event_word answer.event_values answer.time_word answer.time_values answer.answer_word answer.values_of arguments.interval_of arguments.opening_outcome arguments.initiation_outcome arguments.lacking arguments.bad_outcome arguments.bad_jitter arguments.bad_batch arguments.creation_number damage.stored_holds damage.control_holds undamaged control.new_control control.refuse control.done control.expired_control control.queueing control.poll_event control.missing_report handleHandshake.responding handleHandshake.respond handleHandshake.handle_handshake_initiation handleHandshake.confirming handleHandshake.establish handleHandshake.complete handleHandshake.handle_handshake_response handleHandshake.handle_cookie_reply initiate_handshake.initiating initiate_handshake.initiate initiate_handshake.restart_handshake initiate_handshake.start_handshake tunnelCases.case_datagram encapsulate.begin_encapsulate encapsulate.finish_encapsulate encapsulate.grant encapsulate.send encapsulate.encrypt_keepalive decapsulate.confirm_first_session decapsulate.accept decapsulate.commit_decapsulate decapsulate.begin_decapsulate tunnel.new_tunnel tunnel.gate tunnel.timeless_gate tunnel.refused tunnel.let_through tunnel.timed tunnel.timeless tunnel.kept tunnel.timed_turn tunnel.timed_batch tunnel.call_new tunnel.call_start tunnel.call_restart tunnel.call_send tunnel.call_receive tunnel.call_look tunnel.call_initiation tunnel.call_response tunnel.call_cookie tunnel.call_timeout tunnel.call_settle tunnel.call_event tunnel.call_deadline tunnel.call_missing handle_timeout.clear_all handle_timeout.expire_control handle_timeout.scheduling handle_timeout.queue_keepalive handle_timeout.keepalive_due handle_timeout.passive_timers handle_timeout.keepalive_timers handle_timeout.send_keepalive handle_timeout.keepalive_if_due handle_timeout.rekey_due handle_timeout.rekey_or_keepalive handle_timeout.give_up_or_retry handle_timeout.maintain_connection handle_timeout.is_lost handle_timeout.is_replaced handle_timeout.expire_sessions handle_timeout.send_scheduled handle_timeout.handle_due handle_timeout.handle_timeout settling.waking_due settling.repeat_waking settling.settle poll_timeout.scheduled_handshake poll_timeout.earliest_expiry poll_timeout.cookie_deadline poll_timeout.reject_deadline poll_timeout.attempt_deadline poll_timeout.handshake_rekey_timeout poll_timeout.found_on_send poll_timeout.found_after_messages poll_timeout.found_on_receive poll_timeout.response_deadline poll_timeout.passive_deadline poll_timeout.persistent_deadline poll_timeout.current_persistent_deadline poll_timeout.common_deadline poll_timeout.rekey_deadline poll_timeout.keepalive_deadline poll_timeout.unscheduled_deadline poll_timeout.next_deadline poll_timeout.not_before poll_timeout.poll_timeout calls.step calls.after made.made made.case_batch made.case_waking made.case_answer made.wakings_of made.case_message made.insertion_by made.inserted guarded.by receiving.committing receiving.history_from sending.still sending.put_last sending.keepalive_by sending.waking_grant sending.waking_grants sending.woken_grant sending.answered_grant sending.woken_grants sending.grants_from sending.polled_by sending.polled wakings.took wakings.ran wakings.ran_after lists.up_from sending.counters_of rights.operator_may rights.controller_may rights.allowed user.guard calls.operation_of calls.lent_to example.creation example.calls example.here example.batch example.settled example.received example.turned example.desked example.selecting
+unfolding laws.commits last_heard.hearing last_heard.heard_from count.ones_in count.ones bits.bit choice.choose sums.sum window.bit_at window.check_bit window.set_bit window.clear_bit window.clears window.advance window.is_invalid window.will_accept window.next_after window.words_after window.skipped_by window.mark_did_receive index.wrapping_increment store.slot_words store.put_slot lists.zeros lists.ones_of store.missing_of sessionsCases.case_time sessionsCases.case_role sessionsCases.case_reserved session.due_by session.least session.earlier session.new_session session.empty_session session.rekey_after_time_on_send session.reject_after_time_on_receive session.expires_at session.expired_at session.should_use_at session.rekey_after_messages_reached session.sending_counter_exhausted session.prepare_packet_data session.reserve_counters session.will_receive sessionsCases.case_found sessionsCases.case_selected sessionsCases.case_missing sessions.empty_slots sessions.new_sessions sessions.in_slot_of sessions.get sessions.put sessions.current_of sessions.in_current_slot sessions.ahead sessions.next_index sessions.inserting sessions.insert sessions.usable sessions.sending_session sessions.is_index sessions.select sessions.set_current sessions.clear sessions.emptied sessions.expired_slot sessions.discard sessions.expire_slot sessions.expire_first sessions.expire first.none_of sessions.slot_expiry sessions.first_expiry sessions.missing sessionsCases.case_received batch.known batch.fits batch.finish_receive_packet_data batch.finish_all batch.receiving_session batch.receive history.verdict_on history.recorded history.recorded_all history.verdicts_on damage.time_holds damage.state_holds damage.in_range damage.interval_holds damage.both_at_most damage.event_holds sessionsDamage.slot_holds sessionsDamage.slots_hold damage.queue_holds damage.events_hold damage.handshake_holds damage.packet_timers_hold damage.data_timers_hold damage.fields_hold damage.timers_hold tunnelCases.case_event tunnelCases.case_state tunnelCases.case_completed tunnelCases.case_cookie handshake.new_handshake handshake.awaits handshake.is_in_progress handshake.in_flight_initiation handshake.set_expired handshake.is_expired handshake.cookie_expiration handshake.clear_cookie handshake.expire_cookie handshake.append_mac1_and_mac2 handshake.initiate_handshake handshake.receive_handshake_initialization handshake.expects handshake.receive_handshake_response handshake.receive_cookie_reply ringBuffer.place_of ringBuffer.empty_places ringBuffer.new_ring ringBuffer.ring_is_empty ringBuffer.store_at ringBuffer.push_back ringBuffer.pop_front ringBuffer.events_from ringBuffer.queued ringBuffer.newest ringBuffer.oldest tunnelCases.case_interval timers.new_timers timers.reject_after_time_of timers.rekey_attempt_deadline timers.rekey_after_time_without_response timers.keepalive_after_time_without_send timers.next_persistent_keepalive timers.clear_timers timers.tick_last_handshake_completed timers.tick_last_handshake_started timers.tick_last_packet_received timers.tick_last_packet_sent timers.tick_last_data_packet_received timers.time_or timers.tick_last_data_packet_sent timers.tick_persistent_keepalive timers.rekey_timeout_of timers.schedule_handshake timers.cancel_scheduled_handshake timers.consume_passive_keepalive timers.tick_accepted timers.tick_response timers.tick_completed timers.tick_initiation answer.number_of answer.event_word answer.event_values answer.time_word answer.time_values answer.answer_word answer.values_of arguments.interval_of arguments.opening_outcome arguments.initiation_outcome arguments.lacking arguments.bad_outcome arguments.bad_jitter arguments.bad_batch arguments.creation_number damage.stored_holds damage.control_holds undamaged control.new_control control.refuse control.done control.expired_control control.queueing control.poll_event control.missing_report handleHandshake.responding handleHandshake.respond handleHandshake.handle_handshake_initiation handleHandshake.confirming handleHandshake.establish handleHandshake.complete handleHandshake.handle_handshake_response handleHandshake.handle_cookie_reply initiate_handshake.initiating initiate_handshake.initiate initiate_handshake.restart_handshake initiate_handshake.start_handshake tunnelCases.case_datagram encapsulate.begin_encapsulate encapsulate.finish_encapsulate encapsulate.grant encapsulate.send encapsulate.encrypt_keepalive decapsulate.confirm_first_session decapsulate.accept decapsulate.commit_decapsulate decapsulate.begin_decapsulate tunnel.new_tunnel tunnel.gate tunnel.timeless_gate tunnel.refused tunnel.let_through tunnel.timed tunnel.timeless tunnel.kept tunnel.timed_turn tunnel.timed_batch tunnel.call_new tunnel.call_start tunnel.call_restart tunnel.call_send tunnel.call_receive tunnel.call_look tunnel.call_initiation tunnel.call_response tunnel.call_cookie tunnel.call_timeout tunnel.call_settle tunnel.call_event tunnel.call_deadline tunnel.call_missing handle_timeout.clear_all handle_timeout.expire_control handle_timeout.scheduling handle_timeout.queue_keepalive handle_timeout.keepalive_due handle_timeout.passive_timers handle_timeout.keepalive_timers handle_timeout.send_keepalive handle_timeout.keepalive_if_due handle_timeout.rekey_due handle_timeout.rekey_or_keepalive handle_timeout.give_up_or_retry handle_timeout.maintain_connection handle_timeout.is_lost handle_timeout.is_replaced handle_timeout.expire_sessions handle_timeout.send_scheduled handle_timeout.handle_due handle_timeout.handle_timeout settling.waking_due settling.repeat_waking settling.settle poll_timeout.scheduled_handshake poll_timeout.earliest_expiry poll_timeout.cookie_deadline poll_timeout.reject_deadline poll_timeout.attempt_deadline poll_timeout.handshake_rekey_timeout poll_timeout.found_on_send poll_timeout.found_after_messages poll_timeout.found_on_receive poll_timeout.response_deadline poll_timeout.passive_deadline poll_timeout.persistent_deadline poll_timeout.current_persistent_deadline poll_timeout.common_deadline poll_timeout.rekey_deadline poll_timeout.keepalive_deadline poll_timeout.unscheduled_deadline poll_timeout.next_deadline poll_timeout.not_before poll_timeout.poll_timeout calls.step calls.after made.made made.case_batch made.case_waking made.case_answer made.wakings_of made.case_message made.insertion_by made.inserted receiving.committing receiving.history_from sending.still sending.put_last sending.keepalive_by sending.waking_grant sending.waking_grants sending.woken_grant sending.answered_grant sending.woken_grants sending.grants_from sending.polled_by sending.polled wakings.took wakings.ran wakings.ran_after lists.up_from sending.counters_of example.creation example.calls example.here example.batch example.settled
 example_law =
     let one : insertions (made.made (created example.creation) example.calls) ≡ 1 = refl in
     let few : insertions (made.made (created example.creation) example.calls) < 2 ^ 64 = omega (arith, one) in
-    let live : (who : Caller) → Permitted who 1 → Live example.here who example.batch 1 =
-    (λ who permitted.
-    record {
-      permitted = permitted;
-      timely = omega arith;
-      whole = refl;
-      kinds_long = refl;
-      verdicts_long = refl;
-      skips_long = refl;
-      most = omega arith;
-      known = known_kinds;
-      onward = omega arith;
-      alive = λ e. (let z : ◌≡◌ {A = ℕ} 0 11 = e in omega (arith, z));
-      among = omega arith;
-      filled = refl;
-      index = refl;
-      id = refl;
-      age = omega arith;
-    }) in
     record {
       good = refl;
       few = few;
-      live = live radio own;
+      live =
+          record {
+            timely = omega arith;
+            whole = refl;
+            kinds_long = refl;
+            verdicts_long = refl;
+            skips_long = refl;
+            most = omega arith;
+            known = known_kinds;
+            onward = omega arith;
+            alive = λ e. (let z : ◌≡◌ {A = ℕ} 0 11 = e in omega (arith, z));
+            among = omega arith;
+            filled = refl;
+            index = refl;
+            id = refl;
+            age = omega arith;
+          };
       history = refl;
       verdicts = refl;
       skips = refl;
@@ -121,7 +98,6 @@ example_law =
       settled_polls = refl;
       can_send =
           record {
-            permitted = own;
             some = omega arith;
             timely = omega arith;
             onward = omega arith;
@@ -132,7 +108,7 @@ example_law =
           };
       sent = refl;
       late = refl;
-      cannot_send = (sending_law example.creation refl example.calls few).twelve radio 2 170001000001 refl;
+      cannot_send = (sending_law example.creation refl example.calls few).twelve 2 170001000001 refl;
       fresh = refl;
       young = refl;
       old = refl;
@@ -140,18 +116,4 @@ example_law =
       heard_first = refl;
       heard = refl;
       heard_last = refl;
-      desk_live = live (desk 0) (right operator_receives);
-      no_live = λ slot live. no_receiving live.permitted;
-      desk_sends = refl;
-      no_send = refl;
-      desk_history = refl;
-      desk_heard = refl;
-      turned_number = refl;
-      turned_verdicts = refl;
-      turned_skips = refl;
-      turned_greatest = refl;
-      desk_grants = refl;
-      desk_polls = refl;
-      selected = (_, refl);
-      unselected = λ e. nothing_got e.0 e.1;
     }

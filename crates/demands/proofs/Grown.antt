@@ -3,10 +3,9 @@
 use mathlib.Core.Path.{refl, sym, subst}
 use mathlib.Core.List.{List, [], ◌∷◌}
 use Prim.Native.Nat.{ℕ}
-use Rattle.demands.specs.Calls.Call.{start, restart, send, receive, look, initiation, response, cookie, timeout, settle, event, deadline, missing, guarded}
+use Rattle.demands.specs.Calls.Call.{start, restart, send, receive, look, initiation, response, cookie, timeout, settle, event, deadline, missing}
 use Rattle.demands.proofs.Created.{good_made}
-use Rattle.demands.proofs.Guarded.{of_guarded}
-use Rattle.demands.specs.Calls.{Call, World, Reply, step, after, Creation, created, Good}
+use Rattle.demands.specs.Calls.{Call, World, step, after, Creation, created, Good}
 use Rattle.demands.specs.Grown.{Grown}
 use Rattle.sessions.specs.Cases.{case_selected}
 use Rattle.sessions.specs.Sessions.{new_sessions, current_of}
@@ -32,7 +31,6 @@ sound_step w (settle jitter now) s = (sound_law w.tunnel s).settle w.store jitte
 sound_step w event s = (sound_law w.tunnel s).event
 sound_step w deadline s = (sound_law w.tunnel s).deadline
 sound_step w (missing index) s = (sound_law w.tunnel s).missing w.store index
-sound_step w (guarded user call) s = of_guarded (λ (r : Reply). Sound r.world.tunnel) w user call (sound_step w call s) s
 
 -- a list of calls
 pub sound_after : (calls : List Call) (w : World) → Sound w.tunnel → Sound (after w calls).tunnel
@@ -62,7 +60,6 @@ none_step w (settle jitter now) n = (expired_law w.tunnel w.store n).settle jitt
 none_step w event n = (expired_law w.tunnel w.store n).event
 none_step w deadline n = (expired_law w.tunnel w.store n).deadline
 none_step w (missing index) n = (expired_law w.tunnel w.store n).missing index
-none_step w (guarded user call) n = of_guarded (λ (r : Reply). NoneCurrent r.world.tunnel) w user call (none_step w call n) n
 
 none_after : (calls : List Call) (w : World) → NoneCurrent w.tunnel → NoneCurrent (after w calls).tunnel
 unfolding after

@@ -8,7 +8,7 @@ use Prim.Native.Nat.{ℕ, ◌+◌, ◌≤◌, ◌<◌}
 use native.Mathlib.Decide.{ℕ_discrete}
 use native.Mathlib.Omega.{arith}
 use lib.Dec.{eqb}
-use lib.ListN.{length, get_or, length_append, get_or-append}
+use lib.ListN.{length, get_or, length-append, get_or-append}
 use borrow.Author.Tests.{eq-eqb, ne_eqb}
 use Rattle.base.specs.Choice.{choose}
 use Rattle.base.specs.Lists.{up_from}
@@ -66,7 +66,7 @@ pub longer_same : (ins : List Insertion) → Longer ins ins
 longer_same ins = record { long = omega arith; same = λ id l. refl }
 
 pub longer_on : (ins more : List Insertion) → Longer ins (ins ++ more)
-longer_on ins more = record { long = rw (length_append ins more) (omega arith); same = λ id l. get_or-append ins more _ id l }
+longer_on ins more = record { long = rw (length-append ins more) (omega arith); same = λ id l. get_or-append ins more _ id l }
 
 -- what calls committed to a session: its history, and the time of the last batch that committed
 pub record Past : Type 0 where

@@ -1,6 +1,6 @@
 -- What is known of the control and the store after any calls, and the operations of the Rust's that insert, commit and grant nothing.
 -- Assumes nothing.
-use mathlib.Core.Path.{◌≡◌, refl, ◌∙◌}
+use mathlib.Core.Path.{◌≡◌, refl}
 use mathlib.Core.Bool.{Bool, false}
 use mathlib.Core.List.{List, [], ◌++◌, append-nil}
 use Prim.Native.Nat.{ℕ, ◌+◌}
@@ -15,7 +15,7 @@ use Rattle.tunnel.specs.declared.answer.Answer.TheVariants.{No, Done, NoAnswer, 
 use Rattle.tunnel.specs.declared.answer.Answer.{Answer}
 use Rattle.tunnel.specs.declared.control.Control.{Control}
 use Rattle.tunnel.specs.declared.control.Out.{Out}
-use Rattle.demands.proofs.Held.{Past, SlotHeld, Held, held_carried, Carried}
+use Rattle.demands.proofs.Held.{Past, Held, held_carried, Carried}
 use Rattle.demands.proofs.Moves.{carried_next}
 use Rattle.demands.proofs.Queued.{keepalive_in, Queue, queue_push, queue_pop}
 use Rattle.demands.specs.Calls.{World}
@@ -67,26 +67,6 @@ pub known_same : (ins m : List Insertion) (h : ℕ → Past) (g a k v : List Gra
     → m ≡ [] → a ≡ [] → v ≡ [] → z ≡ [] → Known ins h g k polls c store → Known (ins ++ m) h (g ++ (a ++ v)) (k ++ v) (polls ++ z) c store
 known_same ins m h g a k v polls z c store e p q r w =
     known_as ins _ h g _ k _ polls _ c store (rw e (append-nil ins)) (rw (p, q) (append-nil g)) (rw q (append-nil k)) (rw r (append-nil polls)) w
-
--- the same past of each session, said otherwise
-pub known_pointwise : (ins : List Insertion) (h i : ℕ → Past) (g k : List Grant) (polls : List PolledKeepalive) (c : Control) (store : List ℕ)
-    → ((id : ℕ) → i id ≡ h id) → Known ins h g k polls c store → Known ins i g k polls c store
-known_pointwise ins h i g k polls c store e v =
-    record {
-      held = record {
-        eight = v.held.eight;
-        size = v.held.size;
-        count = v.held.count;
-        slots = λ j low f.
-            (let s : SlotHeld ins h g j _ _ = v.held.slots j low f in
-            record { placed = s.placed; named = s.named; message = s.message; stands = rw (e _) s.stands; heard = rw (e _) s.heard; granted = s.granted });
-        apart = v.held.apart;
-        unborn = λ id l. e id ∙ v.held.unborn id l;
-        ungranted = v.held.ungranted;
-        runs = v.held.runs;
-      };
-      queue = v.queue;
-    }
 
 -- what an operation that inserts, commits and grants nothing hands back
 pub record Idle (c : Control) (store : List ℕ) (out : Out) (left : List ℕ) : Type 0 where

@@ -7,7 +7,6 @@ pub mod Example
 pub mod Gated
 pub mod Granting
 pub mod Grown
-pub mod Guarded
 pub mod Held
 pub mod Inserting
 pub mod Judged
@@ -16,7 +15,6 @@ pub mod Known
 pub mod LastHeard
 pub mod Missing
 pub mod Moves
-pub mod Numbers
 pub mod Peers
 pub mod Queued
 pub mod Ran

@@ -1,6 +1,6 @@
 -- Demand 2, the missing report: the count of a filled slot is that of its session's history.
 -- Assumes nothing.
-use mathlib.Core.Path.{◌≡◌, refl, ap, sym, subst, ◌∙◌}
+use mathlib.Core.Path.{◌≡◌, refl, ap, sym, ◌∙◌}
 use mathlib.Core.Bool.{Bool, true, false}
 use mathlib.Core.List.{List, [], ◌∷◌}
 use Prim.Native.Nat.{ℕ, ◌+◌, ◌-◌, ◌≤◌, ◌<◌, min}
@@ -8,7 +8,6 @@ use native.Mathlib.Omega.{arith}
 use lib.Dec.{eqb}
 use lib.ListN.{length, get_or}
 use borrow.Author.Tests.{eq-eqb, le-leb}
-use Rattle.access.specs.Rights.{missing_operation}
 use Rattle.base.specs.Choice.{choose}
 use Rattle.base.proofs.Sums.{sum_cong, sum_parted, cycled_again}
 use Rattle.window.specs.History.{member, expected, seen, among_last, past, Represents}
@@ -18,12 +17,10 @@ use Rattle.tunnel.specs.declared.answer.Answer.{Answer}
 use Rattle.tunnel.specs.declared.answer.Answer.TheVariants.{Report}
 use Rattle.demands.proofs.After.{known_run}
 use Rattle.demands.proofs.Grown.{sound_after, sound_created}
-use Rattle.demands.proofs.Guarded.{is_own}
 use Rattle.demands.proofs.Held.{Past, SlotHeld}
 use Rattle.demands.proofs.Known.{Known}
 use Rattle.demands.specs.Calls.Call.{missing}
-use Rattle.demands.specs.Calls.{World, Reply, operation_of, step, after, created}
-use Rattle.demands.specs.Guarded.{Caller, by, Permitted}
+use Rattle.demands.specs.Calls.{World, step, after, created}
 use Rattle.demands.specs.History.{uncommitted, CountLaw}
 use Rattle.demands.specs.Missing.{ReportLaw, MissingReport, NoReport}
 use Rattle.demands.specs.Made.{Insertion}
@@ -142,17 +139,10 @@ module _ (w : World) (ins : List Insertion) (h : ℕ → Past) (g k : List Grant
           fresh = λ e. value ∙ ap (λ (n : ℕ). n ∷ []) (uncommitted_none (h x.id).history e);
         }
 
--- the report of a caller that 20 lets through is the report itself
-own_report : (w : World) (who : Caller) (index : ℕ) → Permitted who missing_operation → (step w (missing index)).answer ≡ (step w (by who (missing index))).answer
-unfolding operation_of
-own_report w who index p = ap (λ (r : Reply). r.answer) (sym (is_own w who (missing index) p))
-
 pub missing_report_lem : MissingReport
-missing_report_lem c good calls few who permitted slot low filled =
-    subst (ReportLaw _) (own_report (after (created c) calls) who _ permitted)
-    (says (after (created c) calls) _ _ _ _ _ (known_run c good calls few) (sound_after calls (created c) (sound_created c)) slot low filled)
+missing_report_lem c good calls few slot low filled =
+    says (after (created c) calls) _ _ _ _ _ (known_run c good calls few) (sound_after calls (created c) (sound_created c)) slot low filled
 
 pub no_report : NoReport
-no_report c good calls few who permitted index none =
-    ap number_of (sym (own_report (after (created c) calls) who index permitted))
-    ∙ unheld (after (created c) calls) _ _ _ _ _ (known_run c good calls few) (sound_after calls (created c) (sound_created c)) index none
+no_report c good calls few index none =
+    unheld (after (created c) calls) _ _ _ _ _ (known_run c good calls few) (sound_after calls (created c) (sound_created c)) index none

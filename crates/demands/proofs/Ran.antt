@@ -12,10 +12,9 @@ use Rattle.tunnel.specs.Control.{refuse, poll_event, missing_report}
 use Rattle.tunnel.specs.declared.control.Out.{Out}
 use Rattle.demands.proofs.Created.{good_made}
 use Rattle.demands.proofs.Grown.{sound_step, sound_created}
-use Rattle.demands.proofs.Guarded.{of_guards}
 use Rattle.demands.proofs.Twins.{deadline_still}
-use Rattle.demands.specs.Calls.Call.{start, restart, send, receive, look, initiation, response, cookie, timeout, settle, event, deadline, missing, guarded}
-use Rattle.demands.specs.Calls.{Call, World, Reply, step, after, Creation, created, Good}
+use Rattle.demands.specs.Calls.Call.{start, restart, send, receive, look, initiation, response, cookie, timeout, settle, event, deadline, missing}
+use Rattle.demands.specs.Calls.{Call, World, step, after, Creation, created, Good}
 use Rattle.demands.specs.Wakings.{Ran, took, ran, ran_new, ran_after}
 use Rattle.sessions.specs.Session.{time_limit}
 use Rattle.base.specs.Lists.{zeros}
@@ -88,8 +87,6 @@ ran_step w (settle jitter now) u = took_is w.tunnel w.store u _ now _ _
 ran_step w event u = event_is w.tunnel w.store u
 ran_step w deadline u = ap (λ (t : Tunnel). ran_of t w.store) (sym (deadline_still w.tunnel u))
 ran_step w (missing index) u = stays_timeless w.tunnel w.store u _ _ (missing_stays w.tunnel w.store u index)
-ran_step w (guarded user call) u =
-    of_guards (λ (x : Ran) (r : Reply). x ≡ ran_of r.world.tunnel r.world.store) user call _ _ _ _ (ran_step w call u) refl
 
 -- the Rust at a creation, and after a list of calls from it
 made_ran : (c : Creation) → ran_new c ≡ ran_of (new_tunnel c.index c.keepalive c.now) (zeros 1024)

@@ -1,13 +1,12 @@
 -- Demand 2, receiving: a batch for a live session is judged by what the calls so far committed there.
 -- Assumes nothing.
-use mathlib.Core.Path.{◌≡◌, refl, ap, sym, subst, ◌∙◌}
+use mathlib.Core.Path.{◌≡◌, refl, ap, sym, ◌∙◌}
 use mathlib.Core.Bool.{Bool, true, false, true≢false}
 use mathlib.Core.List.{List}
 use Prim.Native.Nat.{ℕ, ◌<◌}
 use native.Mathlib.Omega.{arith}
 use lib.ListN.{length, get_or, take}
 use borrow.Author.Tests.{eq-eqb, eqb-true, eqb-false}
-use Rattle.access.specs.Rights.{receive_operation}
 use Rattle.base.specs.Choice.{choose}
 use Rattle.tunnel.specs.Control.{refuse, done, expired_control}
 use Rattle.tunnel.specs.Decapsulate.{commit_decapsulate}
@@ -17,13 +16,11 @@ use Rattle.demands.proofs.Held.{Past}
 use Rattle.demands.proofs.After.{known_run}
 use Rattle.demands.proofs.Gated.{gate_open, expired_control_lem, control_alive}
 use Rattle.demands.proofs.Grown.{grown}
-use Rattle.demands.proofs.Guarded.{of_caller, is_own}
 use Rattle.demands.proofs.Changes.{batch_judged}
 use Rattle.demands.proofs.Known.{Known}
 use Rattle.demands.proofs.Verdicts.{long_each, each_verdict}
-use Rattle.demands.specs.Calls.{World, Reply, operation_of, step, after, created}
-use Rattle.demands.specs.Guarded.{Caller, by, Permitted}
-use Rattle.demands.specs.Receiving.{Batch, receiving, Live, Judges, ReceivingLaw, Receiving, OnlyLive}
+use Rattle.demands.specs.Calls.{World, step, after, created}
+use Rattle.demands.specs.Receiving.{Batch, receiving, Live, Judges, Receiving, OnlyLive}
 use Rattle.demands.specs.Made.{Insertion}
 use Rattle.demands.specs.Sending.{Grant, PolledKeepalive}
 use lib.Dec.{eqb}
@@ -65,7 +62,7 @@ module _ (store counters kinds verdicts skips : List ℕ) where
 
 -- a live batch
 module _ (w : World) (u : undamaged w.tunnel ≡ true) (ins : List Insertion) (h : ℕ → Past) (g k : List Grant) (polls : List PolledKeepalive)
-    (y : Known ins h g k polls w.tunnel.control w.store) (who : Caller) (b : Batch) (slot : ℕ) (live : Live w who b slot) where
+    (y : Known ins h g k polls w.tunnel.control w.store) (b : Batch) (slot : ℕ) (live : Live w b slot) where
   abbrev s : Sessions
   s = w.tunnel.control.sessions
 
@@ -155,15 +152,16 @@ module _ (w : World) (u : undamaged w.tunnel ≡ true) (ins : List Insertion) (h
       (get_or (step w (receiving b)).verdicts i 0) (get_or (step w (receiving b)).skips i 0)
   judges i l = rw (verdicts_are, skips_are) (each_verdict i (h b.id).history b.counters b.kinds live.kinds_long l)
 
-  judged : ReceivingLaw (h b.id).history b (step w (by who (receiving b)))
-  unfolding operation_of
-  judged =
-      subst (ReceivingLaw (h b.id).history b) (sym (is_own w who (receiving b) live.permitted))
-      (record { good = good; long = long; skips_long = skips_long; judges = judges })
-
 pub receiving_law : Receiving
-receiving_law c good_creation calls few who b slot live =
-    judged (after (created c) calls) (grown c good_creation calls) _ _ _ _ _ (known_run c good_creation calls few) who b slot live
+receiving_law c good_creation calls few b slot live =
+    let y : Known _ _ _ _ _ _ _ = known_run c good_creation calls few in
+    let u : undamaged (after (created c) calls).tunnel ≡ true = grown c good_creation calls in
+    record {
+      good = good (after (created c) calls) u _ _ _ _ _ y b slot live;
+      long = long (after (created c) calls) u _ _ _ _ _ y b slot live;
+      skips_long = skips_long (after (created c) calls) u _ _ _ _ _ y b slot live;
+      judges = judges (after (created c) calls) u _ _ _ _ _ y b slot live;
+    }
 
 -- a batch that is answered good
 module _ (w : World) (u : undamaged w.tunnel ≡ true) (b : Batch) where
@@ -191,15 +189,14 @@ module _ (w : World) (u : undamaged w.tunnel ≡ true) (b : Batch) where
   good_passes true false true true Nothing p q r f e z = absurd (omega (arith, rw (p, q, r, f, e) at z))
   good_passes true false true true (Got x) p q r f e z = record { opened = eqb-true _ 0 p; alive = q; session = x; found = e }
 
-  only : (who : Caller) → Permitted who receive_operation → number_of (step w (receiving b)).answer ≡ 0 → (slot : ℕ) × Live w who b slot
-  only who permitted z =
+  only : number_of (step w (receiving b)).answer ≡ 0 → (slot : ℕ) × Live w b slot
+  only z =
       let p : Passes = good_passes _ _ _ _ _ refl refl refl refl refl z in
       let l : (length w.store ≡ 1024) × IsBatch b.counters b.kinds b.verdicts b.skips =
       good_batch_lem w.store b.counters b.kinds b.verdicts b.skips ((gate_law w.tunnel bad b.now).good p.opened) in
       let i = (lookup_law w.tunnel.control.sessions).receiving b.index b.id b.now p.session p.found in (
         slot_of b.index,
         record {
-          permitted = permitted;
           timely = (gate_law w.tunnel bad b.now).limited p.opened;
           whole = l.0;
           kinds_long = l.1.kinds_long;
@@ -217,11 +214,5 @@ module _ (w : World) (u : undamaged w.tunnel ≡ true) (b : Batch) where
         },
       )
 
-  only_caller : (who : Caller) → number_of (step w (by who (receiving b))).answer ≡ 0 → (slot : ℕ) × Live w who b slot
-  unfolding operation_of number_of
-  only_caller who =
-      of_caller (λ (r : Reply). number_of r.answer ≡ 0 → (slot : ℕ) × Live w who b slot) w (receiving b) who (only who)
-      (λ d z. absurd (omega (arith, z)))
-
 pub only_live_law : OnlyLive
-only_live_law c good_creation calls who b z = only_caller (after (created c) calls) (grown c good_creation calls) b who z
+only_live_law c good_creation calls b z = only (after (created c) calls) (grown c good_creation calls) b z

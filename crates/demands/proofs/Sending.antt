@@ -8,23 +8,19 @@ use Prim.Native.Nat.{ℕ, ◌+◌, ◌-◌, ◌^◌, ◌≤◌, ◌<◌}
 use native.Mathlib.Omega.{arith}
 use lib.ListN.{length, get_or}
 use borrow.Author.Tests.{ne_eqb}
-use Rattle.access.specs.Rights.{send_operation}
 use Rattle.base.proofs.Counting.{length-up_from, up_from-at}
 use Rattle.base.specs.Lists.{up_from}
 use Rattle.demands.proofs.After.{past_of, known_run}
 use Rattle.demands.proofs.Gated.{gate_open, timed_open, alive_test, ended_test, eleven_ended, ended_eleven}
 use Rattle.demands.proofs.Grown.{grown, none_current}
-use Rattle.demands.proofs.Guarded.{of_caller, is_own}
 use Rattle.demands.proofs.Held.{Runs, message_in}
 use Rattle.demands.proofs.Known.{Known}
-use Rattle.demands.proofs.Numbers.{named_number}
-use Rattle.demands.proofs.Peers as peers
+use Rattle.demands.proofs.Peers.{sends, wakes}
 use Rattle.demands.proofs.Queued.{queue_polls}
 use Rattle.demands.proofs.Ran.{ran_created}
 use Rattle.demands.proofs.Sendable.{current_message, current_counter, Meets, meets_may, may_meets, send_granted, send_twelve}
 use Rattle.demands.specs.Calls.Call.{send}
-use Rattle.demands.specs.Calls.{Call, World, Reply, operation_of, step, Creation, created, Good, Expired}
-use Rattle.demands.specs.Guarded.{Caller, by, Permitted}
+use Rattle.demands.specs.Calls.{Call, World, step, Creation, created, Good, Expired}
 use Rattle.demands.specs.Made.{Insertion, inserted, insertions, message_of}
 use Rattle.demands.specs.Sending.{current_in, woken_grants, grants, polled, world_after, made_by, granted_to, CanSend, send_after, Sending}
 use Rattle.demands.specs.Wakings.{Ran, ran_new, ran_after}
@@ -32,15 +28,14 @@ use Rattle.sessions.proofs.Laws.{lookup_law}
 use Rattle.sessions.specs.Laws.{MaySend}
 use Rattle.sessions.specs.Range.{range}
 use Rattle.sessions.specs.Sessions.{current_of}
-use Rattle.sessions.specs.declared.range.Range.{Range}
 use Rattle.sessions.specs.declared.session.Session.{Session}
 use Rattle.sessions.specs.declared.sessions.Found.TheVariants.{Nothing, Got}
 use Rattle.tunnel.specs.Answer.{number_of, values_of}
 use Rattle.tunnel.specs.Damage.{undamaged}
 use Rattle.tunnel.specs.Encapsulate as encapsulate
-use Rattle.tunnel.specs.Numbers.{Just, Alive}
+use Rattle.tunnel.specs.Numbers.{Alive}
 use Rattle.tunnel.specs.Tunnel.{call_send}
-use Rattle.tunnel.specs.declared.answer.Answer.TheVariants.{No, Granted}
+use Rattle.tunnel.specs.declared.answer.Answer.TheVariants.{Granted}
 use Rattle.tunnel.specs.declared.answer.Answer.{Answer}
 
 -- counters that run are the first ones, below LIMIT
@@ -63,32 +58,6 @@ module _ (w : World) (u : undamaged w.tunnel ≡ true) (count now : ℕ) (some :
   unfolding step call_send
   send_open =
       timed_open w.tunnel _ now _ (gate_open w.tunnel _ now u (ne_eqb count 0 (λ z. omega (arith, z, some))) timely onward)
-
--- no send is turned down by 20 but one of a caller who is not permitted it
-module _ (w : World) (who : Caller) (count now : ℕ) where
-  send_not_twenty : number_of (step w (send count now)).answer ≡ 20 → ⊥
-  unfolding operation_of
-  send_not_twenty e = omega (arith, e, named_number w (send count now) (omega arith))
-
-  own_send : Permitted who send_operation → (step w (by who (send count now))).answer ≡ (step w (send count now)).answer
-  unfolding operation_of
-  own_send p = ap (λ (r : Reply). r.answer) (is_own w who (send count now) p)
-
-  -- what holds of an answer where the caller is permitted, and of 20 where he is not
-  of_send : (P : Answer → Type 0) → (Permitted who send_operation → P (step w (send count now)).answer) → ((Permitted who send_operation → ⊥) → P (No 20))
-      → P (step w (by who (send count now))).answer
-  unfolding operation_of
-  of_send P p q = of_caller (λ (r : Reply). P r.answer) w (send count now) who p q
-
-  twenty : Just (number_of (step w (by who (send count now))).answer ≡ 20) (Permitted who send_operation → ⊥)
-  unfolding number_of
-  twenty = (
-    of_send (λ (a : Answer). number_of a ≡ 20 → Permitted who send_operation → ⊥) (λ p e. absurd (send_not_twenty e)) (λ d e. d),
-    of_send (λ (a : Answer). (Permitted who send_operation → ⊥) → number_of a ≡ 20) (λ p d. absurd (d p)) (λ d z. refl),
-  )
-
-not_granted : (number : ℕ) (r : Range) → No number ≡ Granted r → ⊥
-not_granted number r e = let z : ◌≡◌ {A = ℕ} 0 1 = cc in omega arith
 
 -- what a granted range says
 module _ (answer : Answer) (peer first count : ℕ) (e : answer ≡ Granted (range peer first count)) where
@@ -132,34 +101,25 @@ module _ (c : Creation) (good : Good c) (calls : List Call) (few : insertions (m
     alive : Alive here.tunnel
     alive e = got_nothing x (sym current ∙ none_current c good calls e)
 
-  module _ (who : Caller) (count now : ℕ) where
-    -- whose a range is
-    sends : (r : Range) → send_after c calls who count now ≡ Granted r
-        → (session : Session) × (current_in here ≡ Got session) × ((message_of session.id (made_by c calls)).peer ≡ r.peer)
-    sends r =
-        of_send here who count now
-        (λ (a : Answer). a ≡ Granted r → (session : Session) × (current_in here ≡ Got session) × ((message_of session.id (made_by c calls)).peer ≡ r.peer))
-        (λ p. peers.sends here _ _ _ _ _ known count now r) (λ d e. absurd (not_granted 20 r e))
-
+  module _ (count now : ℕ) where
     -- a send that a session can meet
-    can_meets : (can : CanSend c calls who count now)
+    can_meets : (can : CanSend c calls count now)
         → Meets (message_of can.current.0.id (made_by c calls)) (granted_to can.current.0.id (made_by c calls)) count now
     can_meets can = record { prompt = can.prompt; young = can.young; left = can.left }
 
-    can_granted : (can : CanSend c calls who count now)
-        → send_after c calls who count now ≡ Granted (range can.current.0.sending_index can.current.0.sending_key_counter count)
+    can_granted : (can : CanSend c calls count now)
+        → send_after c calls count now ≡ Granted (range can.current.0.sending_index can.current.0.sending_key_counter count)
     can_granted can =
         let x : Session = can.current.0 in
         let e : current_in here ≡ Got x = current_here x can.current.1 in
         let n : granted_to x.id (made_by c calls) ≡ x.sending_key_counter = counter_is x e in
         let may : MaySend x now = meets_may x _ _ count now (message_is x e) n can.some (can_meets can) in
-        own_send here who count now can.permitted
-        ∙ send_open here (grown c good calls) count now can.some can.timely can.onward
+        send_open here (grown c good calls) count now can.some can.timely can.onward
         ∙ send_granted here.tunnel.control count now x ((lookup_law here.tunnel.control.sessions).sends now x e may)
         (omega (arith, n, can.left)) (alive_test here.tunnel (alive x e))
 
-    met : (can : CanSend c calls who count now) → (number_of (send_after c calls who count now) ≡ 0)
-        × (values_of (send_after c calls who count now)
+    met : (can : CanSend c calls count now) → (number_of (send_after c calls count now) ≡ 0)
+        × (values_of (send_after c calls count now)
         ≡ (message_of can.current.0.id (made_by c calls)).peer ∷ granted_to can.current.0.id (made_by c calls) ∷ count ∷ [])
     met can =
         let x : Session = can.current.0 in
@@ -168,23 +128,19 @@ module _ (c : Creation) (good : Good c) (calls : List Call) (few : insertions (m
           granted_values _ _ _ _ (can_granted can) ∙ same_values _ _ _ _ count (ap (λ (m : Insertion). m.peer) (message_is x e)) (counter_is x e),
         )
 
-    eleven : number_of (send_after c calls who count now) ≡ 11 → Expired here
-    unfolding number_of
-    eleven =
-        of_send here who count now (λ (a : Answer). number_of a ≡ 11 → Expired here)
-        (λ p e. ended_eleven here (grown c good calls) (eleven_ended here count now e)) (λ d e. absurd (omega (arith, e)))
+    eleven : number_of (send_after c calls count now) ≡ 11 → Expired here
+    eleven e = ended_eleven here (grown c good calls) (eleven_ended here count now e)
 
-    twelve : number_of (send_after c calls who count now) ≡ 12 → CanSend c calls who count now → ⊥
+    twelve : number_of (send_after c calls count now) ≡ 12 → CanSend c calls count now → ⊥
     twelve e can = omega (arith, e, (met can).0)
 
     -- one that no session can meet
-    module _ (permitted : Permitted who send_operation) (some : 1 ≤ count) (timely : now ≤ 4000000000000000000) (onward : here.tunnel.greatest ≤ now) where
-      can_send_lem : (x : Session) → current_in here ≡ Got x → MaySend x now → x.sending_key_counter + count ≤ 2 ^ 64 - 8193 → CanSend c calls who count now
+    module _ (some : 1 ≤ count) (timely : now ≤ 4000000000000000000) (onward : here.tunnel.greatest ≤ now) where
+      can_send_lem : (x : Session) → current_in here ≡ Got x → MaySend x now → x.sending_key_counter + count ≤ 2 ^ 64 - 8193 → CanSend c calls count now
       can_send_lem x e may below =
           let m : Meets (message_of x.id (made_by c calls)) (granted_to x.id (made_by c calls)) count now =
           may_meets x _ _ count now (message_is x e) (counter_is x e) may below in
           record {
-            permitted = permitted;
             some = some;
             timely = timely;
             onward = onward;
@@ -194,9 +150,9 @@ module _ (c : Creation) (good : Good c) (calls : List Call) (few : insertions (m
             left = m.left;
           }
 
-      otherwise : (Expired here → ⊥) → (CanSend c calls who count now → ⊥) → number_of (send_after c calls who count now) ≡ 12
+      otherwise : (Expired here → ⊥) → (CanSend c calls count now → ⊥) → number_of (send_after c calls count now) ≡ 12
       otherwise living cannot =
-          ap number_of (own_send here who count now permitted ∙ send_open here (grown c good calls) count now some timely onward)
+          ap number_of (send_open here (grown c good calls) count now some timely onward)
           ∙ send_twelve here.tunnel.control count now (λ e. living (ended_eleven here (grown c good calls) (ended_test here.tunnel e)))
           (λ x e may below. cannot (can_send_lem x e may below))
 
@@ -206,11 +162,10 @@ sending_law c good calls few =
     record {
       counts = λ id. runs_counts _ (y.held.runs id);
       below = λ id. runs_below _ (y.held.runs id);
-      sends = sends c good calls few;
-      wakes = peers.wakes (world_after c calls) _ _ _ _ _ y;
+      sends = sends (world_after c calls) _ _ _ _ _ y;
+      wakes = wakes (world_after c calls) _ _ _ _ _ y;
       polls = queue_polls _ _ _ y.queue;
       met = met c good calls few;
-      twenty = twenty (world_after c calls);
       eleven = eleven c good calls few;
       twelve = twelve c good calls few;
       otherwise = otherwise c good calls few;

@@ -1,9 +1,8 @@
 -- The persistent keepalive's setting stays over every call.
 -- Assumes nothing.
-use mathlib.Core.Path.{◌≡◌, refl, ◌∙◌}
-use Rattle.demands.proofs.Guarded.{of_guarded}
-use Rattle.demands.specs.Calls.Call.{start, restart, send, receive, look, initiation, response, cookie, timeout, settle, event, deadline, missing, guarded}
-use Rattle.demands.specs.Calls.{Call, World, Reply, step}
+use mathlib.Core.Path.{◌≡◌, ◌∙◌}
+use Rattle.demands.specs.Calls.Call.{start, restart, send, receive, look, initiation, response, cookie, timeout, settle, event, deadline, missing}
+use Rattle.demands.specs.Calls.{Call, World, step}
 use Rattle.tunnel.proofs.Laws.{setting_law}
 use Rattle.tunnel.specs.Laws.{setting_of}
 use Rattle.tunnel.specs.declared.timers.Interval.{Interval}
@@ -23,8 +22,6 @@ setting_same w (settle jitter now) = (setting_law w.tunnel w.store).settle jitte
 setting_same w event = (setting_law w.tunnel w.store).event
 setting_same w deadline = (setting_law w.tunnel w.store).deadline
 setting_same w (missing index) = (setting_law w.tunnel w.store).missing index
-setting_same w (guarded user call) =
-    of_guarded (λ (r : Reply). setting_of r.world.tunnel ≡ setting_of w.tunnel) w user call (setting_same w call) refl
 
 pub setting_stays : (interval : Interval) (w : World) (call : Call) → setting_of w.tunnel ≡ interval → setting_of (step w call).world.tunnel ≡ interval
 setting_stays interval w call e = setting_same w call ∙ e

@@ -9,8 +9,6 @@ use lib.Dec.{eqb}
 use lib.ListN.{length}
 use borrow.Author.Tests.{eqb-false}
 use Rattle.base.proofs.Choice.{yes_eq, no_eq, same_choice, of_choice}
-use Rattle.access.specs.Rights.{allowed}
-use Rattle.access.specs.User.{guard}
 use Rattle.base.specs.Choice.{choose}
 use Rattle.tunnel.specs.Answer.{number_of}
 use Rattle.tunnel.specs.Control.{Turn, refuse, poll_event}
@@ -21,15 +19,15 @@ use Rattle.tunnel.specs.declared.control.Out.{Out}
 use Rattle.demands.proofs.Gated.{of_turn}
 use Rattle.demands.proofs.Granting.Sends.{none, some}
 use Rattle.demands.proofs.Granting.{Sends, sends_some}
-use Rattle.demands.proofs.Held.{Past}
+use Rattle.demands.proofs.Held.{Past, SlotHeld}
 use Rattle.demands.proofs.Inserting.Inserts.{nothing, responds, completes}
 use Rattle.demands.proofs.Inserting.{Inserts, inserts_initiation, inserts_response}
 use Rattle.demands.proofs.Judging.Judged.{turned, taken}
 use Rattle.demands.proofs.Judging.{Judged, judged_batch}
-use Rattle.demands.proofs.Known.{Known, Plain, plain_of, known_as, known_same, known_pointwise, Idle, idle_refused, idle_start, idle_restart, idle_look, idle_cookie, known_event, ungranted_event, idle_deadline, idle_missing}
+use Rattle.demands.proofs.Known.{Known, Plain, plain_of, known_as, known_same, Idle, idle_refused, idle_start, idle_restart, idle_look, idle_cookie, known_event, ungranted_event, idle_deadline, idle_missing}
 use Rattle.demands.proofs.Repeated.{woke_step, known_waking, known_repeated}
-use Rattle.demands.specs.Calls.Call.{start, restart, send, receive, look, initiation, response, cookie, timeout, settle, event, deadline, missing, guarded}
-use Rattle.demands.specs.Calls.{Call, World, Reply, operation_of, stored, batched, step}
+use Rattle.demands.specs.Calls.Call.{start, restart, send, receive, look, initiation, response, cookie, timeout, settle, event, deadline, missing}
+use Rattle.demands.specs.Calls.{Call, World, Reply, stored, batched, step}
 use Rattle.demands.specs.Made.{case_batch, case_waking, case_message, case_answer, wakings_of, Insertion, insertion, insertion_by}
 use Rattle.demands.specs.LastHeard.{hearing}
 use Rattle.demands.specs.Receiving.{committing}
@@ -155,6 +153,25 @@ module _ (ins : List Insertion) (h : ℕ → Past) (g k : List Grant) (polls : L
       (of_send _ _ (same_choice _ []) (sends_some w.tunnel.control w.store count now)) (next_quiet _ _ (same_choice _ []) (turned_down _))
 
   -- a batch
+  pointwise : (i : ℕ → Past) (c : Control) (store : List ℕ) → ((id : ℕ) → i id ≡ h id) → Known ins h g k polls c store
+      → Known ins i g k polls c store
+  pointwise i c store e v =
+      record {
+        held = record {
+          eight = v.held.eight;
+          size = v.held.size;
+          count = v.held.count;
+          slots = λ j low f.
+              (let s : SlotHeld ins h g j _ _ = v.held.slots j low f in
+              record { placed = s.placed; named = s.named; message = s.message; stands = rw (e _) s.stands; heard = rw (e _) s.heard; granted = s.granted });
+          apart = v.held.apart;
+          unborn = λ id l. e id ∙ v.held.unborn id l;
+          ungranted = v.held.ungranted;
+          runs = v.held.runs;
+        };
+        queue = v.queue;
+      }
+
   module _ (index id now : ℕ) (counters kinds verdicts skips : List ℕ) where
     abbrev batch : Call
     batch = receive index id now counters kinds verdicts skips
@@ -166,7 +183,7 @@ module _ (ins : List Insertion) (h : ℕ → Past) (g k : List Grant) (polls : L
     next_turned reply number e d v =
         known_as ins _ _ g _ k _ polls _ _ _ (none_more _) (rw e (append-nil g)) (append-nil k)
         (rw e (append-nil polls))
-        (known_pointwise ins h _ g k polls _ _ (λ y. past_is (h y) _ _
+        (pointwise _ _ _ (λ y. past_is (h y) _ _
         (of_choice (λ (l : List ℕ). l ≡ (h y).history) _ _ _ (rw e (sym (no_eq number 0 (h y).history _ _ d refl))) refl)
         (of_choice (λ (l : Time). l ≡ (h y).heard) _ _ _ (rw e (sym (no_eq number 0 (h y).heard _ _ d refl))) refl)) v)
 
@@ -316,27 +333,9 @@ module _ (ins : List Insertion) (h : ℕ → Past) (g k : List Grant) (polls : L
         (λ handshake. response_law w.tunnel s handshake w.store receiver peer now ((gate_law w.tunnel _ now).onward z) y.held.size))
         few
 
-  -- what is known after a call, if it inserts few enough
-  abbrev FewNext : Call → Reply → Type 0
-  FewNext call reply = length ins + length (insertion_by call reply.answer) < 2 ^ 64 → Next ins h g k polls w call reply
-
-  -- a guarded call: let through, and turned down by 20
-  module _ (user : ℕ) (call : Call) where
-    next_through : allowed user (operation_of call) ≡ true → FewNext call (step w call) → FewNext (guarded user call) (step w (guarded user call))
-    unfolding step guard committing hearing case_batch woken_grant case_waking insertion_by case_message choose
-    next_through t v = rw t v
-
-    next_outside : allowed user (operation_of call) ≡ false → FewNext (guarded user call) (step w (guarded user call))
-    unfolding step guard committing hearing case_batch woken_grant case_waking insertion_by case_message refused number_of choose
-    next_outside f = rw f (λ few. next_quiet [] _ refl (turned_down 20))
-
-    next_guarded : (may : Bool) → allowed user (operation_of call) ≡ may → FewNext call (step w call)
-        → FewNext (guarded user call) (step w (guarded user call))
-    next_guarded true e v = next_through e v
-    next_guarded false e v = next_outside e
-
   -- every call
-  pub next : Sound w.tunnel → (call : Call) → FewNext call (step w call)
+  pub next : Sound w.tunnel → (call : Call) → length ins + length (insertion_by call (step w call).answer) < 2 ^ 64
+      → Next ins h g k polls w call (step w call)
   next s (start now) few = next_start now
   next s (restart now) few = next_restart now
   next s (send count now) few = next_send count now
@@ -350,4 +349,3 @@ module _ (ins : List Insertion) (h : ℕ → Past) (g k : List Grant) (polls : L
   next s event few = next_event
   next s deadline few = next_deadline_lem
   next s (missing index) few = next_missing index
-  next s (guarded user call) few = next_guarded user call (allowed user (operation_of call)) refl (next s call) few

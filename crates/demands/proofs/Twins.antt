@@ -14,13 +14,12 @@ use Rattle.tunnel.specs.InitiateHandshake.{start_handshake, restart_handshake}
 use Rattle.tunnel.specs.HandleHandshake.{handle_handshake_initiation, handle_handshake_response, handle_cookie_reply}
 use Rattle.tunnel.specs.Encapsulate as encapsulate
 use Rattle.tunnel.specs.Decapsulate as decapsulate
-use Rattle.tunnel.specs.declared.answer.Answer.TheVariants.{No, Deadline}
+use Rattle.tunnel.specs.declared.answer.Answer.TheVariants.{Deadline}
 use Rattle.tunnel.specs.declared.answer.Answer.{Answer}
 use Rattle.tunnel.specs.declared.control.Control.{Control}
 use Rattle.tunnel.specs.declared.control.Out.{Out}
-use Rattle.demands.proofs.Guarded.{of_guards}
-use Rattle.demands.specs.Calls.Call.{start, restart, send, receive, look, initiation, response, cookie, timeout, settle, event, deadline, missing, guarded}
-use Rattle.demands.specs.Calls.{Call, World, Reply, plain, stored, batched, turned_down, step}
+use Rattle.demands.specs.Calls.Call.{start, restart, send, receive, look, initiation, response, cookie, timeout, settle, event, deadline, missing}
+use Rattle.demands.specs.Calls.{Call, World, Reply, plain, stored, batched, step}
 use Rattle.demands.specs.Wakings.Alike.{equal, come}
 use Rattle.sessions.specs.Sessions.{slot_at}
 use Rattle.demands.specs.Wakings.{HeardAlike, time_of, NotEarlier, Alike, Same}
@@ -214,14 +213,6 @@ module _ {latest : ℕ} {p w : World} (h : Twins latest p w) (u : undamaged p.tu
         twins = record { tunnels = rw (deadline_still p.tunnel u, deadline_still w.tunnel v) h.tunnels; store = h.store };
       }
 
-  -- a call that 20 turns down
-  turned_pair : (call : Call) → Pair latest (turned_down p call) (turned_down w call)
-  turned_pair call =
-      record {
-        same = record { answers = equal (No 20); verdicts = refl; skips = refl; stores = h.store; heard = heard_alike h.tunnels };
-        twins = h;
-      }
-
   -- every call
   pub calls_alike : (call : Call) → NotEarlier latest call → Pair latest (step p call) (step w call)
   unfolding step time_of call_start call_restart call_send call_receive call_look call_initiation call_response call_cookie call_timeout call_settle call_event call_missing
@@ -254,5 +245,3 @@ module _ {latest : ℕ} {p w : World} (h : Twins latest p w) (u : undamaged p.tu
       plain_pair _ _
       (timeless_alike h.tunnels u v _ _ _ _ (ap lacking h.store)
       (ap₂ (λ (c : Control) (s : List ℕ). missing_report c s index) h.tunnels.control h.store))
-  calls_alike (guarded user call) l =
-      of_guards (λ (x y : Reply). Pair latest x y) user call _ _ _ _ (calls_alike call l) (turned_pair call)

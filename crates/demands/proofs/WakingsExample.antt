@@ -6,8 +6,6 @@ use mathlib.Core.List.{List, [], ◌∷◌, ◌++◌}
 use mathlib.Core.Logic.{◌⊎◌, inl, inr, ⊎_elim}
 use Prim.Native.Nat.{ℕ}
 use native.Mathlib.Omega.{arith}
-use Rattle.access.specs.Rights.{operator_may, controller_may, allowed}
-use Rattle.access.specs.User.{guard}
 use Rattle.base.specs.Choice.{choose}
 use Rattle.base.specs.First.{none_of}
 use Rattle.tunnel.specs.Answer.{number_of, time_values, values_of}
@@ -23,8 +21,8 @@ use Rattle.tunnel.specs.Decapsulate.{confirm_first_session}
 use Rattle.tunnel.specs.declared.answer.Answer.TheVariants.{No, Initiation, Polled, Deadline}
 use Rattle.tunnel.specs.declared.answer.Answer.{Answer}
 use Rattle.demands.proofs.Admits.{is_eleven, is_above, test_expired, test_early, early_is, test_held, held_is, none_earlier, test_order, order_is}
-use Rattle.demands.specs.Calls.Call.{start, response, timeout, settle, event, deadline, guarded}
-use Rattle.demands.specs.Calls.{Call, Good, operation_of, lent_to, step, after, created, Expired}
+use Rattle.demands.specs.Calls.Call.{start, response, timeout, settle, event, deadline}
+use Rattle.demands.specs.Calls.{Call, Good, step, after, created, Expired}
 use Rattle.demands.specs.Wakings.Alike.{equal, come}
 use Rattle.demands.specs.Wakings.{Step, shared, extra, plain_calls, woken_calls, took, ran, ran_new, time_of, Alike, Agree, CreatedAlike}
 use Rattle.demands.specs.WakingsExample.{creation, established, used, lost, example, plain_after, woken_after, ExtraWakingsExample, late, unheld, disordered, ConditionsNeeded}
@@ -76,8 +74,7 @@ record Computed : Type 0 where
   ended : Expired (woken_after lost)
   plainly : values_of (step (plain_after used) deadline).answer ≡ 120001000000 ∷ []
   wakingly : values_of (step (woken_after used) deadline).answer ≡ 130000000000 ∷ []
-  settles : values_of (step (woken_after used) (guarded 0 (settle 0 131000000000))).answer ≡ 2 ∷ []
-  unsettled : number_of (step (woken_after used) (guarded 1 (settle 0 131000000000))).answer ≡ 20
+  settles : values_of (step (woken_after used) (settle 0 131000000000)).answer ≡ 2 ∷ []
   unset : Good (creation 0 0)
   woken_unset : Good (creation 1 0)
   kept : Good (creation 0 25)
@@ -96,7 +93,7 @@ record Computed : Type 0 where
   disordered_woken : woken_answer 0 disordered_first (start 5000000000) ≡ No 13
 
 computed : Computed
-unfolding choose wrapping_increment case_time case_role case_reserved due_by least earlier new_session empty_session rekey_after_time_on_send reject_after_time_on_receive expires_at expired_at should_use_at rekey_after_messages_reached sending_counter_exhausted prepare_packet_data reserve_counters case_found case_selected empty_slots new_sessions in_slot_of get put current_of in_current_slot ahead next_index inserting insert usable sending_session is_index select set_current clear emptied expired_slot discard expire_slot expire_first expire none_of slot_expiry first_expiry put_slot zeros number_of time_values values_of interval_of opening_outcome lacking bad_outcome bad_jitter creation_number time_holds state_holds in_range interval_holds both_at_most event_holds slot_holds slots_hold queue_holds events_hold handshake_holds packet_timers_hold data_timers_hold fields_hold timers_hold stored_holds control_holds undamaged new_control refuse done expired_control queueing poll_event scheduled_handshake earliest_expiry cookie_deadline reject_deadline attempt_deadline handshake_rekey_timeout found_on_send found_after_messages found_on_receive response_deadline passive_deadline persistent_deadline current_persistent_deadline common_deadline rekey_deadline keepalive_deadline unscheduled_deadline next_deadline not_before poll_timeout case_event case_state case_completed new_handshake awaits is_in_progress in_flight_initiation set_expired is_expired cookie_expiration append_mac1_and_mac2 initiate_handshake expects receive_handshake_response confirming establish complete handle_handshake_response initiating initiate restart_handshake start_handshake place_of empty_places new_ring ring_is_empty store_at push_back pop_front events_from queued case_interval new_timers reject_after_time_of rekey_attempt_deadline rekey_after_time_without_response keepalive_after_time_without_send next_persistent_keepalive clear_timers tick_last_handshake_completed tick_last_handshake_started tick_last_packet_received tick_last_packet_sent time_or tick_last_data_packet_sent tick_persistent_keepalive rekey_timeout_of schedule_handshake cancel_scheduled_handshake consume_passive_keepalive tick_completed tick_initiation case_datagram begin_encapsulate finish_encapsulate grant encrypt_keepalive confirm_first_session new_tunnel gate timeless_gate refused let_through timed timeless kept timed_turn call_new call_start call_send call_response call_timeout call_settle call_event call_deadline clear_all expire_control scheduling queue_keepalive keepalive_due passive_timers keepalive_timers send_keepalive keepalive_if_due rekey_due rekey_or_keepalive give_up_or_retry expire_cookie maintain_connection is_lost is_replaced expire_sessions send_scheduled handle_due handle_timeout settling.waking_due settling.repeat_waking settling.settle encapsulate.send operator_may controller_may allowed guard operation_of lent_to step after plain_calls woken_calls took ran time_of established used lost example late unheld disordered is_eleven is_above test_expired test_early test_held none_earlier test_order
+unfolding choose wrapping_increment case_time case_role case_reserved due_by least earlier new_session empty_session rekey_after_time_on_send reject_after_time_on_receive expires_at expired_at should_use_at rekey_after_messages_reached sending_counter_exhausted prepare_packet_data reserve_counters case_found case_selected empty_slots new_sessions in_slot_of get put current_of in_current_slot ahead next_index inserting insert usable sending_session is_index select set_current clear emptied expired_slot discard expire_slot expire_first expire none_of slot_expiry first_expiry put_slot zeros number_of time_values values_of interval_of opening_outcome lacking bad_outcome bad_jitter creation_number time_holds state_holds in_range interval_holds both_at_most event_holds slot_holds slots_hold queue_holds events_hold handshake_holds packet_timers_hold data_timers_hold fields_hold timers_hold stored_holds control_holds undamaged new_control refuse done expired_control queueing poll_event scheduled_handshake earliest_expiry cookie_deadline reject_deadline attempt_deadline handshake_rekey_timeout found_on_send found_after_messages found_on_receive response_deadline passive_deadline persistent_deadline current_persistent_deadline common_deadline rekey_deadline keepalive_deadline unscheduled_deadline next_deadline not_before poll_timeout case_event case_state case_completed new_handshake awaits is_in_progress in_flight_initiation set_expired is_expired cookie_expiration append_mac1_and_mac2 initiate_handshake expects receive_handshake_response confirming establish complete handle_handshake_response initiating initiate restart_handshake start_handshake place_of empty_places new_ring ring_is_empty store_at push_back pop_front events_from queued case_interval new_timers reject_after_time_of rekey_attempt_deadline rekey_after_time_without_response keepalive_after_time_without_send next_persistent_keepalive clear_timers tick_last_handshake_completed tick_last_handshake_started tick_last_packet_received tick_last_packet_sent time_or tick_last_data_packet_sent tick_persistent_keepalive rekey_timeout_of schedule_handshake cancel_scheduled_handshake consume_passive_keepalive tick_completed tick_initiation case_datagram begin_encapsulate finish_encapsulate grant encrypt_keepalive confirm_first_session new_tunnel gate timeless_gate refused let_through timed timeless kept timed_turn call_new call_start call_send call_response call_timeout call_settle call_event call_deadline clear_all expire_control scheduling queue_keepalive keepalive_due passive_timers keepalive_timers send_keepalive keepalive_if_due rekey_due rekey_or_keepalive give_up_or_retry expire_cookie maintain_connection is_lost is_replaced expire_sessions send_scheduled handle_due handle_timeout settling.waking_due settling.repeat_waking settling.settle encapsulate.send step after plain_calls woken_calls took ran time_of established used lost example late unheld disordered is_eleven is_above test_expired test_early test_held none_earlier test_order
 computed =
     record {
       good = refl;
@@ -110,7 +107,6 @@ computed =
       plainly = refl;
       wakingly = refl;
       settles = refl;
-      unsettled = refl;
       unset = refl;
       woken_unset = refl;
       kept = refl;
@@ -149,7 +145,6 @@ extra_wakings_example =
       plainly = computed.plainly;
       wakingly = computed.wakingly;
       settles = computed.settles;
-      unsettled = computed.unsettled;
     }
 
 -- answers that differ, of which the first is no deadline, are not alike

@@ -1,18 +1,15 @@
 -- A list of calls of which demand 2's statements speak, so that what they ask can be met: a handshake, data sent, a batch with a counter twice,
 -- a jump that clears the window, a keepalive queued by a waking and polled; then a batch for the live session, a send that it can meet, and a
--- keepalive granted by a settling and polled; and calls of the desk's users, in their rights and outside them.
-use Rattle.std.specs.Prelude.{◌≡◌, true, List, [], ◌∷◌, ◌++◌, ℕ, ◌^◌, ◌<◌, take}
-use Rattle.access.specs.Rights.{operator, controller}
+-- keepalive granted by a settling and polled.
+use Rattle.std.specs.Prelude.{◌≡◌, true, List, [], ◌∷◌, ◌++◌, ◌^◌, ◌<◌, take}
 use Rattle.tunnel.specs.declared.answer.Answer.TheVariants.{Polled, Woke}
-use Rattle.demands.specs.Calls.Call.{start, send, receive, initiation, response, timeout, settle, event, missing, guarded}
-use Rattle.demands.specs.Calls.{Call, World, Reply, step, after, Creation, created, Good}
-use Rattle.demands.specs.Guarded.Caller.{radio, desk}
+use Rattle.demands.specs.Calls.Call.{start, send, receive, response, timeout, settle, event, missing}
+use Rattle.demands.specs.Calls.{Call, World, step, after, Creation, created, Good}
 use Rattle.demands.specs.LastHeard.{heard_of}
 use Rattle.demands.specs.Made.{made, insertion, inserted, insertions}
 use Rattle.demands.specs.Missing.{slot_after}
 use Rattle.demands.specs.Receiving.{history_of, Batch, receiving, Live}
 use Rattle.demands.specs.Sending.{woken_grants, granting, grants, counters_of, polling, polled, CanSend, send_after}
-use Rattle.demands.specs.Wakings.{ran_new, ran_after, Current}
 use Rattle.tunnel.specs.Answer.{number_of, values_of}
 use Rattle.tunnel.specs.declared.event.Event.TheVariants.{SendKeepalive}
 use Rattle.base.specs.Lists.{zeros}
@@ -59,32 +56,11 @@ batch =
 unfoldable pub settled : List Call
 settled = calls ++ receiving batch ∷ settle 0 21000000000 ∷ event ∷ event ∷ []
 
--- an operator's batch that commits 9,000, and a controller's that is turned down
-unfoldable pub received : List Call
-received = calls ++ guarded operator (receive 257 0 11000000000 (9000 ∷ []) (0 ∷ []) (0 ∷ []) (0 ∷ [])) ∷ []
-
-unfoldable pub turned : Call
-turned = guarded controller (receive 257 0 12000000000 (9001 ∷ []) (0 ∷ []) (5 ∷ []) (6 ∷ []))
-
--- both, then a controller's waking and an operator's settling ten seconds after the data, and both keepalives polled
-unfoldable pub desked : List Call
-desked =
-    received
-    ++ turned ∷ guarded controller (timeout 0 21000000000) ∷ guarded operator (settle 0 21000000000) ∷ guarded operator event ∷ guarded operator event ∷ []
-
--- a user's first message to a session of the peer's handshake
-unfoldable pub selecting : (user : ℕ) → List Call
-selecting user = initiation 9 0 0 ∷ guarded user (receive 257 0 0 (0 ∷ []) (0 ∷ []) (0 ∷ []) (0 ∷ [])) ∷ []
-
--- what the controller's batch hands back
-abbrev pub turned_reply : Reply
-turned_reply = step (after (created creation) received) turned
-
 -- The premises hold, and the session's history, grants, verdicts, skips, keepalive, sends and missing report are these.
 pub record ExampleLaw : Type 0 where
   pub good : Good creation
   pub few : insertions (made (created creation) calls) < 2 ^ 64
-  pub live : Live here radio batch 1
+  pub live : Live here batch 1
   pub history : history_of 0 (created creation) calls ≡ 8960 ∷ 5 ∷ 0 ∷ []
   pub verdicts : (step here (receiving batch)).verdicts ≡ 9 ∷ 10 ∷ 0 ∷ 7 ∷ 0 ∷ []
   pub skips : (step here (receiving batch)).skips ≡ 0 ∷ 0 ∷ 0 ∷ 0 ∷ 39 ∷ []
@@ -101,10 +77,10 @@ pub record ExampleLaw : Type 0 where
   pub settled_grants : woken_grants (made (created creation) settled) ≡ granting 0 9 4 1 ∷ granting 0 9 5 1 ∷ []
   pub settled_polls : polled (made (created creation) settled) ≡ polling 9 4 ∷ polling 9 5 ∷ []
   -- two counters can be sent, and are the next ones; no two can be once the session is older than 170 s
-  pub can_send : CanSend creation calls radio 2 12000000000
-  pub sent : values_of (send_after creation calls radio 2 12000000000) ≡ 9 ∷ 5 ∷ 2 ∷ []
-  pub cannot_send : CanSend creation calls radio 2 170001000001 → ⊥
-  pub late : number_of (send_after creation calls radio 2 170001000001) ≡ 12
+  pub can_send : CanSend creation calls 2 12000000000
+  pub sent : values_of (send_after creation calls 2 12000000000) ≡ 9 ∷ 5 ∷ 2 ∷ []
+  pub cannot_send : CanSend creation calls 2 170001000001 → ⊥
+  pub late : number_of (send_after creation calls 2 170001000001) ≡ 12
   -- none is missing from the fresh session, four from the young one, and in the end all of the window's counters but the last
   pub fresh : values_of (step (after (created creation) (take 2 calls)) (missing 257)).answer ≡ 0 ∷ []
   pub young : values_of (step (after (created creation) (take 4 calls)) (missing 257)).answer ≡ 4 ∷ []
@@ -114,21 +90,3 @@ pub record ExampleLaw : Type 0 where
   pub heard_first : (slot_after creation (take 3 calls) 1).last_heard ≡ 1000000
   pub heard : heard_of 0 (created creation) calls ≡ At 4000000
   pub heard_last : (slot_after creation calls 1).last_heard ≡ 4000000
-  -- an operator's batch is for the live session, and a controller's is for none; an operator can send, and a controller cannot
-  pub desk_live : Live here (desk operator) batch 1
-  pub no_live : (slot : ℕ) → Live here (desk controller) batch slot → ⊥
-  pub desk_sends : values_of (send_after creation calls (desk operator) 2 12000000000) ≡ 9 ∷ 5 ∷ 2 ∷ []
-  pub no_send : number_of (send_after creation calls (desk controller) 2 12000000000) ≡ 20
-  -- the operator's counter is in the history and the controller's is not, whose lists and tunnel are as they came
-  pub desk_history : history_of 0 (created creation) desked ≡ 9000 ∷ 8960 ∷ 5 ∷ 0 ∷ []
-  pub desk_heard : heard_of 0 (created creation) desked ≡ At 11000000000
-  pub turned_number : number_of turned_reply.answer ≡ 20
-  pub turned_verdicts : turned_reply.verdicts ≡ 5 ∷ []
-  pub turned_skips : turned_reply.skips ≡ 6 ∷ []
-  pub turned_greatest : turned_reply.world.tunnel.greatest ≡ 11000000000
-  -- the controller's waking grants nothing, the operator's settling the keepalive with counter 5
-  pub desk_grants : woken_grants (made (created creation) desked) ≡ granting 0 9 4 1 ∷ granting 0 9 5 1 ∷ []
-  pub desk_polls : polled (made (created creation) desked) ≡ polling 9 4 ∷ polling 9 5 ∷ []
-  -- by the Rust's calls, an operator's first message to a session makes it current, and a controller's does not
-  pub selected : Current (ran_after (ran_new creation) (selecting operator))
-  pub unselected : Current (ran_after (ran_new creation) (selecting controller)) → ⊥

@@ -2,7 +2,6 @@ pub mod BatchExample
 pub mod Calls
 pub mod Example
 pub mod Grown
-pub mod Guarded
 pub mod History
 pub mod LastHeard
 pub mod Made

@@ -4,8 +4,8 @@ use Rattle.base.specs.Choice.{choose}
 use Rattle.tunnel.specs.Answer.{number_of}
 use Rattle.tunnel.specs.declared.answer.Answer.TheVariants.{No, Done, NoAnswer, Initiation, Response, Keepalive, Granted, Polled, Deadline, Report, Woke}
 use Rattle.tunnel.specs.declared.answer.Answer.{Answer}
-use Rattle.demands.specs.Calls.Call.{start, restart, send, receive, look, initiation, response, cookie, timeout, settle, event, deadline, missing, guarded}
-use Rattle.demands.specs.Calls.{Call, World, Reply, guarded_by, step}
+use Rattle.demands.specs.Calls.Call.{start, restart, send, receive, look, initiation, response, cookie, timeout, settle, event, deadline, missing}
+use Rattle.demands.specs.Calls.{Call, World, Reply, step}
 use Rattle.sessions.specs.declared.range.Range.{Range}
 use Rattle.tunnel.specs.declared.event.Event.{Event}
 
@@ -24,7 +24,6 @@ unfoldable pub made : World → List Call → List Made
 made w [] = []
 made w (call ∷ calls) = making w call ∷ made (step w call).world calls
 
--- a guarded call that 20 lets through is the call itself; one that it turns down is no batch, no waking and no message
 module _ {A : Type 0} where
   -- one value for each batch's session id, time and counters, one for every other call
   unfoldable pub case_batch : Call → ((id now : ℕ) → List ℕ → A) → A → A
@@ -41,7 +40,6 @@ module _ {A : Type 0} where
   case_batch event f x = x
   case_batch deadline f x = x
   case_batch (missing index) f x = x
-  case_batch (guarded user call) f x = guarded_by user call (case_batch call f x) x
 
   -- one value for each batch for this session id that was answered good, by its time and counters, one for every other call
   abbrev pub good_batch : (id : ℕ) → Call → Reply → ((now : ℕ) → List ℕ → A) → A → A
@@ -63,7 +61,6 @@ module _ {A : Type 0} where
   case_waking event f g x = x
   case_waking deadline f g x = x
   case_waking (missing index) f g x = x
-  case_waking (guarded user call) f g x = guarded_by user call (case_waking call f g x) x
 
   -- one value for each response's peer and time, one for each incoming initiation's, one for every other call
   unfoldable pub case_message : Call → (ℕ → ℕ → A) → (ℕ → ℕ → A) → A → A
@@ -80,7 +77,6 @@ module _ {A : Type 0} where
   case_message event f g x = x
   case_message deadline f g x = x
   case_message (missing index) f g x = x
-  case_message (guarded user call) f g x = guarded_by user call (case_message call f g x) x
 
   -- one value for each range granted by a send, one for each keepalive that a response was answered with, one for each event, one for every
   -- other answer

@@ -1,11 +1,9 @@
 -- Demand 2, the missing report: a recount of what was committed.
 use Rattle.std.specs.Prelude.{◌≡◌, true, List, [], ◌∷◌, ℕ, ◌+◌, ◌^◌, ◌<◌, min}
-use Rattle.access.specs.Rights.{missing_operation}
 use Rattle.tunnel.specs.Answer.{number_of, values_of}
 use Rattle.tunnel.specs.declared.answer.Answer.{Answer}
 use Rattle.demands.specs.Calls.Call.{missing}
 use Rattle.demands.specs.Calls.{Call, step, after, Creation, created, Good}
-use Rattle.demands.specs.Guarded.{Caller, by, Permitted}
 use Rattle.demands.specs.History.{uncommitted}
 use Rattle.demands.specs.Made.{made, insertions}
 use Rattle.demands.specs.Receiving.{history_of}
@@ -17,9 +15,9 @@ use Rattle.window.specs.History.{expected, among_last}
 abbrev pub slot_after : Creation → List Call → ℕ → Session
 slot_after c calls slot = slot_at (after (created c) calls).tunnel.control.sessions slot
 
--- the answer of a caller's missing report after a list of calls
-abbrev pub missing_after : Creation → List Call → Caller → (index : ℕ) → Answer
-missing_after c calls who index = (step (after (created c) calls) (by who (missing index))).answer
+-- the answer of the missing report of a slot's local index after a list of calls
+abbrev pub missing_after : Creation → List Call → ℕ → Answer
+missing_after c calls slot = (step (after (created c) calls) (missing (slot_after c calls slot).receiving_index)).answer
 
 -- What the missing report of a session with this history answers:
 pub record ReportLaw (history : List ℕ) (answer : Answer) : Type 0 where
@@ -31,18 +29,16 @@ pub record ReportLaw (history : List ℕ) (answer : Answer) : Type 0 where
   -- a session that committed nothing has none missing
   pub fresh : history ≡ [] → values_of answer ≡ 0 ∷ []
 
--- For every creation that is not turned down, every list of calls with fewer than 2^64 insertions, every caller that 20 lets through and every
--- filled slot.
+-- For every creation that is not turned down, every list of calls with fewer than 2^64 insertions and every filled slot.
 abbrev pub MissingReport : Type 0
 MissingReport =
     (c : Creation) → Good c → (calls : List Call) → insertions (made (created c) calls) < 2 ^ 64
-    → (who : Caller) → Permitted who missing_operation → (slot : ℕ) → slot < 8 → (slot_after c calls slot).filled ≡ true
-    → ReportLaw (history_of (slot_after c calls slot).id (created c) calls) (missing_after c calls who (slot_after c calls slot).receiving_index)
+    → (slot : ℕ) → slot < 8 → (slot_after c calls slot).filled ≡ true
+    → ReportLaw (history_of (slot_after c calls slot).id (created c) calls) (missing_after c calls slot)
 
 -- And for every local index that no filled slot holds the report is turned down by 12, the tunnel expired or not.
 abbrev pub NoReport : Type 0
 NoReport =
     (c : Creation) → Good c → (calls : List Call) → insertions (made (created c) calls) < 2 ^ 64
-    → (who : Caller) → Permitted who missing_operation
     → (index : ℕ) → ((slot : ℕ) → slot < 8 → (slot_after c calls slot).filled ≡ true → (slot_after c calls slot).receiving_index ≡ index → ⊥)
-    → number_of (missing_after c calls who index) ≡ 12
+    → number_of (step (after (created c) calls) (missing index)).answer ≡ 12

@@ -1,10 +1,8 @@
 -- Demand 2, receiving: which counters a live session commits, said of the calls made on the tunnel and their answers.
 use Rattle.std.specs.Prelude.{◌≡◌, true, false, List, [], ◌∷◌, ℕ, ◌+◌, ◌-◌, ◌^◌, ◌≤◌, ◌<◌, length, get_or, take}
-use Rattle.access.specs.Rights.{receive_operation}
 use Rattle.tunnel.specs.Answer.{number_of}
 use Rattle.demands.specs.Calls.Call.{receive}
 use Rattle.demands.specs.Calls.{Call, World, Reply, step, after, Creation, created, Good, Expired}
-use Rattle.demands.specs.Guarded.{Caller, by, Permitted}
 use Rattle.demands.specs.Made.{Made, made, good_batch, insertions}
 use Rattle.demands.specs.History.{recorded_all}
 use Rattle.sessions.specs.Sessions.{slot_at}
@@ -37,10 +35,9 @@ pub record Batch : Type 0 where
 abbrev pub receiving : Batch → Call
 receiving b = receive b.index b.id b.now b.counters b.kinds b.verdicts b.skips
 
--- live, word by word: the checks 20, 1, 2 and 13 let the caller's call through, as 14 does every tunnel from a creation (`Grown`), the tunnel is
--- not expired, a filled slot holds the given local index and session id, and its age is below 180 s
-pub record Live (w : World) (who : Caller) (b : Batch) (slot : ℕ) : Type 0 where
-  pub permitted : Permitted who receive_operation
+-- live, word by word: the checks 1, 2 and 13 let the call through, as 14 does every tunnel from a creation (`Grown`), the tunnel is not
+-- expired, a filled slot holds the given local index and session id, and its age is below 180 s
+pub record Live (w : World) (b : Batch) (slot : ℕ) : Type 0 where
   pub timely : b.now ≤ 4000000000000000000
   pub whole : length w.store ≡ 1024
   pub kinds_long : length b.kinds ≡ length b.counters
@@ -72,30 +69,28 @@ pub record Judges (history : List ℕ) (counter kind verdict skipped : ℕ) : Ty
   -- where it commits ahead, it skips the counters from the next expected one up to its own, else none
   pub skips : Skips (expected history) counter verdict skipped
 
--- A batch for a live session with this history is answered good, with one verdict and one skip for each message; each is judged by the history
--- and the batch's earlier messages.
-pub record ReceivingLaw (history : List ℕ) (b : Batch) (reply : Reply) : Type 0 where
-  pub good : number_of reply.answer ≡ 0
-  pub long : length reply.verdicts ≡ length b.counters
-  pub skips_long : length reply.skips ≡ length b.counters
+-- A batch for a live session is answered good, with one verdict and one skip for each message; each is judged by the session's history after the
+-- calls so far and the batch's earlier messages.
+pub record ReceivingLaw (w : World) (calls : List Call) (b : Batch) : Type 0 where
+  pub good : number_of (step (after w calls) (receiving b)).answer ≡ 0
+  pub long : length (step (after w calls) (receiving b)).verdicts ≡ length b.counters
+  pub skips_long : length (step (after w calls) (receiving b)).skips ≡ length b.counters
   pub judges : (i : ℕ) → i < length b.counters
       → Judges
-      (recorded_all history (take i b.counters) (take i reply.verdicts))
+      (recorded_all (history_of b.id w calls) (take i b.counters) (take i (step (after w calls) (receiving b)).verdicts))
       (get_or b.counters i 0)
       (get_or b.kinds i 0)
-      (get_or reply.verdicts i 0)
-      (get_or reply.skips i 0)
+      (get_or (step (after w calls) (receiving b)).verdicts i 0)
+      (get_or (step (after w calls) (receiving b)).skips i 0)
 
--- For every creation that is not turned down, every list of calls with fewer than 2^64 insertions and every caller's batch for a live session, the
--- session's history being that after the calls.
+-- For every creation that is not turned down, every list of calls with fewer than 2^64 insertions and every batch for a live session.
 abbrev pub Receiving : Type 0
 Receiving =
     (c : Creation) → Good c → (calls : List Call) → insertions (made (created c) calls) < 2 ^ 64
-    → (who : Caller) (b : Batch) (slot : ℕ) → Live (after (created c) calls) who b slot
-    → ReceivingLaw (history_of b.id (created c) calls) b (step (after (created c) calls) (by who (receiving b)))
+    → (b : Batch) (slot : ℕ) → Live (after (created c) calls) b slot → ReceivingLaw (created c) calls b
 
--- And a batch that is answered good was for a live session, its caller permitted to receive.
+-- And a batch that is answered good was for a live session.
 abbrev pub OnlyLive : Type 0
 OnlyLive =
-    (c : Creation) → Good c → (calls : List Call) (who : Caller) (b : Batch)
-    → number_of (step (after (created c) calls) (by who (receiving b))).answer ≡ 0 → (slot : ℕ) × Live (after (created c) calls) who b slot
+    (c : Creation) → Good c → (calls : List Call) (b : Batch) → number_of (step (after (created c) calls) (receiving b)).answer ≡ 0
+    → (slot : ℕ) × Live (after (created c) calls) b slot

@@ -1,18 +1,15 @@
 -- Demand 2, sending: the counters that a session grants, to data and to keepalives, said of the calls made and their answers.
 use Rattle.std.specs.Prelude.{◌≡◌, Bool, true, false, List, [], ◌∷◌, ◌++◌, ℕ, zero, suc, ◌+◌, ◌-◌, ◌^◌, ◌≤◌, ◌<◌, eqb, length, get_or}
-use Rattle.access.specs.Rights.{send_operation}
 use Rattle.base.specs.Choice.{choose}
 use Rattle.base.specs.Lists.{up_from}
 use Rattle.tunnel.specs.declared.answer.Answer.TheVariants.{Granted}
 use Rattle.tunnel.specs.declared.answer.Answer.{Answer}
 use Rattle.demands.specs.Calls.Call.{send, timeout, event}
 use Rattle.demands.specs.Calls.{Call, World, Reply, step, after, Creation, created, Good, Expired}
-use Rattle.demands.specs.Guarded.{Caller, by, Permitted}
 use Rattle.demands.specs.Made.{Made, made, case_waking, case_answer, wakings_of, insertion_by, insertions, message_of}
 use Rattle.demands.specs.Wakings.{ran_new, ran_after, Current}
 use Rattle.tunnel.specs.Answer.{number_of, values_of}
 use Rattle.tunnel.specs.Cases.{case_event}
-use Rattle.tunnel.specs.Numbers.{Just}
 use Rattle.tunnel.specs.RingBuffer.{place_of, event_at}
 use Rattle.tunnel.specs.declared.event.Event.TheVariants.{Empty, SendKeepalive}
 use Rattle.tunnel.specs.declared.event.Event.{Event}
@@ -142,10 +139,8 @@ made_by c calls = made (created c) calls
 abbrev pub granted_to : ℕ → List Made → ℕ
 granted_to id calls = length (counters_of id (grants calls))
 
--- a caller's send that a session can meet: so many counters at a time, after a list of calls
-pub record CanSend (c : Creation) (calls : List Call) (who : Caller) (count now : ℕ) : Type 0 where
-  -- a caller that 20 lets through
-  pub permitted : Permitted who send_operation
+-- a send that a session can meet: so many counters at a time, after a list of calls
+pub record CanSend (c : Creation) (calls : List Call) (count now : ℕ) : Type 0 where
   -- a count of at least 1, and a time that 1 and 13 let through
   pub some : 1 ≤ count
   pub timely : now ≤ 4000000000000000000
@@ -158,9 +153,9 @@ pub record CanSend (c : Creation) (calls : List Call) (who : Caller) (count now 
   -- with the counters granted so far it stays at the limit or below
   pub left : granted_to current.0.id (made_by c calls) + count ≤ 2 ^ 64 - 8193
 
--- the answer of a caller's send after a list of calls
-abbrev pub send_after : Creation → List Call → Caller → (count now : ℕ) → Answer
-send_after c calls who count now = (step (world_after c calls) (by who (send count now))).answer
+-- the answer of a send after a list of calls
+abbrev pub send_after : Creation → List Call → (count now : ℕ) → Answer
+send_after c calls count now = (step (world_after c calls) (send count now)).answer
 
 -- After a list of calls:
 pub record SendingLaw (c : Creation) (calls : List Call) : Type 0 where
@@ -169,7 +164,7 @@ pub record SendingLaw (c : Creation) (calls : List Call) : Type 0 where
   -- each is below 2^64 - 8,193
   pub below : (id i : ℕ) → i < granted_to id (made_by c calls) → get_or (counters_of id (grants (made_by c calls))) i 0 < 2 ^ 64 - 8193
   -- each is granted by a current session, to the peer given with its handshake message: those of a send
-  pub sends : (who : Caller) (count now : ℕ) (range : Range) → send_after c calls who count now ≡ Granted range
+  pub sends : (count now : ℕ) (range : Range) → send_after c calls count now ≡ Granted range
       → (session : Session) × (current_in (world_after c calls) ≡ Got session) × ((message_of session.id (made_by c calls)).peer ≡ range.peer)
   -- and that of a waking, so also of each single waking of a settling, which comes after the calls and the wakings before it
   pub wakes : (jitter now peer counter : ℕ) → put_by (world_after c calls) (timeout jitter now) ≡ SendKeepalive peer counter
@@ -177,18 +172,15 @@ pub record SendingLaw (c : Creation) (calls : List Call) : Type 0 where
   -- the keepalives that event calls answered are those that wakings and settlings granted, in order, none twice, some overwritten or still queued
   pub polls : TakenFrom (polled (made_by c calls)) (woken_grants (made_by c calls))
   -- a send that a session can meet answers the peer of its handshake message, the counters granted so far as the first, and the count
-  pub met : (who : Caller) (count now : ℕ) (can : CanSend c calls who count now) → (number_of (send_after c calls who count now) ≡ 0)
-      × (values_of (send_after c calls who count now) ≡
+  pub met : (count now : ℕ) (can : CanSend c calls count now) → (number_of (send_after c calls count now) ≡ 0)
+      × (values_of (send_after c calls count now) ≡
       (message_of can.current.0.id (made_by c calls)).peer ∷ granted_to can.current.0.id (made_by c calls) ∷ count ∷ [])
-  -- 20 is for a caller who is not permitted to send, and for no other
-  pub twenty : (who : Caller) (count now : ℕ) → Just (number_of (send_after c calls who count now) ≡ 20) (Permitted who send_operation → ⊥)
   -- 11 is for an expired tunnel only
-  pub eleven : (who : Caller) (count now : ℕ) → number_of (send_after c calls who count now) ≡ 11 → Expired (world_after c calls)
-  -- 12 is for a send that no session can meet, and for every such one that 20, 1, 2, 13 and 11 let through
-  pub twelve : (who : Caller) (count now : ℕ) → number_of (send_after c calls who count now) ≡ 12 → CanSend c calls who count now → ⊥
-  pub otherwise : (who : Caller) (count now : ℕ) → Permitted who send_operation → 1 ≤ count → now ≤ 4000000000000000000
-      → (world_after c calls).tunnel.greatest ≤ now → (Expired (world_after c calls) → ⊥) → (CanSend c calls who count now → ⊥)
-      → number_of (send_after c calls who count now) ≡ 12
+  pub eleven : (count now : ℕ) → number_of (send_after c calls count now) ≡ 11 → Expired (world_after c calls)
+  -- 12 is for a send that no session can meet, and for every such one that 1, 2, 13 and 11 let through
+  pub twelve : (count now : ℕ) → number_of (send_after c calls count now) ≡ 12 → CanSend c calls count now → ⊥
+  pub otherwise : (count now : ℕ) → 1 ≤ count → now ≤ 4000000000000000000 → (world_after c calls).tunnel.greatest ≤ now
+      → (Expired (world_after c calls) → ⊥) → (CanSend c calls count now → ⊥) → number_of (send_after c calls count now) ≡ 12
 
 -- For every creation that is not turned down and every list of calls with fewer than 2^64 insertions.
 abbrev pub Sending : Type 0

@@ -13,8 +13,8 @@ use Rattle.tunnel.specs.declared.answer.Answer.TheVariants.{Deadline}
 use Rattle.tunnel.specs.declared.answer.Answer.{Answer}
 use Rattle.tunnel.specs.declared.control.Control.{Control}
 use Rattle.tunnel.specs.declared.control.Out.{Out}
-use Rattle.demands.specs.Calls.Call.{start, restart, send, receive, look, initiation, response, cookie, timeout, settle, event, deadline, missing, guarded}
-use Rattle.demands.specs.Calls.{Call, World, Reply, guarded_by, step, after, Creation, created, Good, Expired}
+use Rattle.demands.specs.Calls.Call.{start, restart, send, receive, look, initiation, response, cookie, timeout, settle, event, deadline, missing}
+use Rattle.demands.specs.Calls.{Call, World, Reply, step, after, Creation, created, Good, Expired}
 use Rattle.sessions.specs.Session.{time_limit}
 use Rattle.sessions.specs.Sessions.{slot_at, current_of}
 use Rattle.base.specs.Lists.{zeros}
@@ -56,7 +56,7 @@ took r bad now out store =
     (record { control = out.control; store = store; clock = choose out.raises now r.clock })))
 
 -- the Rust after a call; it has no missing report; of a settling it gets the single wakings of the plain repetition, and the time also where that
--- wakes nothing; a guarded call counts as the call itself, and one that 20 turns down is left out
+-- wakes nothing
 unfoldable pub ran : Ran → Call → Ran
 ran r (start now) = took r false now (start_handshake r.control now) r.store
 ran r (restart now) = took r false now (restart_handshake r.control now) r.store
@@ -86,7 +86,6 @@ ran r (settle jitter now) =
 ran r event = record { control = (poll_event r.control).control; store = r.store; clock = r.clock }
 ran r deadline = r
 ran r (missing index) = r
-ran r (guarded user call) = guarded_by user call (ran r call) r
 
 -- the Rust after a list of calls
 unfoldable pub ran_after : Ran → List Call → Ran
@@ -105,7 +104,7 @@ Current r = (session : Session) × (current_of r.control.sessions ≡ Got sessio
 abbrev pub BeforeDeadline : World → ℕ → Type 0
 BeforeDeadline w now = (due : ℕ) × ((step w deadline).answer ≡ Deadline (At due)) × (now < due)
 
--- the time of a call that has one; a guarded call has the time of the call itself, also where 20 turns it down
+-- the time of a call that has one
 unfoldable pub time_of : Call → Time
 time_of (start now) = At now
 time_of (restart now) = At now
@@ -120,7 +119,6 @@ time_of (settle jitter now) = At now
 time_of event = Never
 time_of deadline = Never
 time_of (missing index) = Never
-time_of (guarded user call) = time_of call
 
 -- a call is not earlier than a time: if it has a time, that is at least this one
 abbrev pub NotEarlier : ℕ → Call → Type 0

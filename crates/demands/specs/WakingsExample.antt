@@ -1,9 +1,8 @@
 -- Lists of steps for demand 3: one that meets its three conditions with wakings that take effect, and for each condition one that meets the
 -- other two and for which the conclusion fails. Times are nanoseconds.
 use Rattle.std.specs.Prelude.{◌≡◌, List, [], ◌∷◌, ◌++◌, ℕ, replicate}
-use Rattle.access.specs.Rights.{operator, controller}
 use Rattle.tunnel.specs.Answer.{number_of, values_of}
-use Rattle.demands.specs.Calls.Call.{start, send, response, timeout, settle, event, deadline, guarded}
+use Rattle.demands.specs.Calls.Call.{start, send, response, timeout, settle, event, deadline}
 use Rattle.demands.specs.Calls.{World, step, after, Creation, created, Expired}
 use Rattle.demands.specs.Wakings.{Step, shared, extra, plain_calls, woken_calls, ran_new, ComesEarly, CurrentOrUnset, InOrder, Admissible, Agree, CreatedAlike}
 
@@ -15,18 +14,13 @@ creation word keepalive = record { store = replicate 1024 word; index = 256; kee
 unfoldable pub established : List Step
 established = shared (start 0) ∷ shared (response 257 9 0 1000000) ∷ shared event ∷ []
 
--- wakings at 130 s and 129 s, and data sent by an operator at 131 s, so that the session should have been renewed at 120 s
+-- wakings at 130 s and 129 s, and data sent at 131 s, so that the session should have been renewed at 120 s
 unfoldable pub used : List Step
-used = established ++ extra 0 130000000000 ∷ extra 0 129000000000 ∷ shared deadline ∷ shared (guarded operator (send 1 131000000000)) ∷ []
+used = established ++ extra 0 130000000000 ∷ extra 0 129000000000 ∷ shared deadline ∷ shared (send 1 131000000000) ∷ []
 
--- a settling at 131 s, which a controller may not make and an operator may; the session lost by 600 s, and with it the connection
+-- a settling at 131 s; the session lost by 600 s, and with it the connection
 unfoldable pub lost : List Step
-lost =
-    used
-    ++ shared deadline ∷ shared (guarded controller (settle 0 131000000000)) ∷ shared (guarded operator (settle 0 131000000000))
-    ∷ shared (timeout 0 600000000000)
-    ∷ shared event
-    ∷ []
+lost = used ++ shared deadline ∷ shared (settle 0 131000000000) ∷ shared (timeout 0 600000000000) ∷ shared event ∷ []
 
 -- a waking at 700 s
 unfoldable pub example : List Step
@@ -50,9 +44,8 @@ pub record ExtraWakingsExample : Type 0 where
   -- at 131 s the two tunnels answer deadlines that differ and have both come
   pub plainly : values_of (step (plain_after used) deadline).answer ≡ 120001000000 ∷ []
   pub wakingly : values_of (step (woken_after used) deadline).answer ≡ 130000000000 ∷ []
-  -- the operator's settling at 131 s wakes twice: a new handshake is scheduled, and its initiation sent; the controller's is turned down
-  pub settles : values_of (step (woken_after used) (guarded operator (settle 0 131000000000))).answer ≡ 2 ∷ []
-  pub unsettled : number_of (step (woken_after used) (guarded controller (settle 0 131000000000))).answer ≡ 20
+  -- the settling at 131 s wakes twice: a new handshake is scheduled, and its initiation sent
+  pub settles : values_of (step (woken_after used) (settle 0 131000000000)).answer ≡ 2 ∷ []
 
 -- a waking just at the deadline, 540 s after the creation
 unfoldable pub late : List Step

@@ -1,5 +1,7 @@
 // What is said of more than one call, and the marked cases. Definitions and theorems; each function here has an empty body and
 // ties a statement to the source.
+#![tactic(auto)]
+
 ghost use Rattle.std.specs.Prelude.{◌≡◌, true, List, ℕ, length};
 ghost use Rattle.window.specs.History.{Represents};
 ghost use Rattle.sessions.specs.declared.session.Session.{Session};
@@ -7,7 +9,6 @@ ghost use Rattle.sessions.specs.declared.sessions.Sessions.{Sessions};
 ghost use Rattle.demands.specs.BatchExample.{BatchExampleLaw};
 ghost use Rattle.demands.specs.Example.{ExampleLaw};
 ghost use Rattle.demands.specs.Grown.{Grown};
-ghost use Rattle.demands.specs.Guarded.{Guarded};
 ghost use Rattle.demands.specs.History.{VerdictLaw, BatchCall, BatchFor, BatchLaw, InsertedLaw, CountLaw};
 ghost use Rattle.demands.specs.LastHeard.{LastHeard};
 ghost use Rattle.demands.specs.Marked.{hold_all, marked};
@@ -25,11 +26,6 @@ pub fn marked_cases()
 // No tunnel grown from a good creation is ever turned down by number 14.
 pub fn grown_law()
     ensures { Grown }
-{}
-
-// A user's call is the call itself where the table of rights has it, else number 20 turns it down and all stays as it came.
-pub fn guarded_law()
-    ensures { Guarded }
 {}
 
 // Demand 2, receiving: which counters a live session commits.
@@ -87,8 +83,8 @@ pub fn last_heard_law()
     ensures { LastHeard }
 {}
 
-// There are calls of which demand 2's statements speak: a live session, a commit, a replay, a jump that clears the window, keepalives of a
-// waking and of a settling, and calls of the desk's users, in their rights and outside them.
+// There are calls of which demand 2's statements speak: a live session, a commit, a replay, a jump that clears the window, and keepalives of a
+// waking and of a settling.
 pub fn example_law()
     ensures { ExampleLaw }
 {}
@@ -98,8 +94,7 @@ pub fn extra_wakings_law()
     ensures { ExtraWakingsLaw }
 {}
 
-// There is a list that meets the conditions, with wakings that take effect, deadlines that differ and have both come, and settlings of the
-// desk's users.
+// There is a list that meets the conditions, with wakings that take effect, deadlines that differ and have both come, and a settling.
 pub fn extra_wakings_example()
     ensures { ExtraWakingsExample }
 {}

@@ -1,10 +1,11 @@
 // Reads calls from standard input, one a line, and writes one line for each to standard output.
+#![tactic(auto)]
+
 ghost use Rattle.std.specs.Prelude.{◌≤◌, length};
 
 use libc::{STDIN_FILENO, STDOUT_FILENO};
 use script::answer::put_line;
-use script::call::call_by;
-use script::caller::{Caller, Heading, headed, read_heading};
+use script::call::call;
 use script::line::{Line, admitted, read, starts};
 use script::log_line::{Log, LogCall, call_log, first_log, put_log};
 use script::skips::{Skips, skips_after};
@@ -15,7 +16,7 @@ use tunnel::tunnel::{Answered, Tunnel};
 
 // What stands between input and output: whether a line has made the tunnel, the line that has begun, and how many bytes of output
 // wait.
-#[derive(Drop)]
+#[derive(Clone, Copy)]
 struct Console {
     started: bool,
     gathered: Gathered,
@@ -23,7 +24,7 @@ struct Console {
 }
 
 // What the program holds from turn to turn.
-#[derive(Drop)]
+#[derive(Clone, Copy)]
 struct Progress {
     tunnel: Tunnel,
     skips: Skips,
@@ -47,43 +48,23 @@ fn make_room(waiting: usize, out: &[u8]) -> usize {
     waiting
 }
 
-// How many bytes the line that was gathered has: none if it is too long, so that it cannot be read.
-fn gathered_len(console: Console, line: &[u8]) -> usize
-    ensures { result ≤ length line.now }
-{
-    let gathered = console.gathered;
-    let len = gathered.len;
-    if gathered.long {
-        return 0;
-    }
-    if len > line.len() {
-        return 0;
-    }
-    len
-}
-
-// Who makes the call of the line that was gathered.
-fn gathered_heading(console: Console, line: &[u8]) -> Heading {
-    let len = gathered_len(console, line);
-    read_heading(&line[..len])
-}
-
-// The line that was gathered, behind its heading.
+// The line that was gathered; one that is too long cannot be read.
 fn gathered_line(
     console: Console,
-    heading: Heading,
     line: &[u8],
     counters: &mut [u64],
     kinds: &mut [u8],
     bytes: &mut [u8],
 ) -> Line {
-    let at = heading.at;
-    let len = gathered_len(console, line);
-    if at > len {
+    let gathered = console.gathered;
+    let len = gathered.len;
+    if gathered.long {
         return Line::Unreadable;
     }
-    let asked = read(&line[at..len], counters, kinds, bytes);
-    admitted(headed(heading, asked), console.started)
+    if len > line.len() {
+        return Line::Unreadable;
+    }
+    admitted(read(&line[..len], counters, kinds, bytes), console.started)
 }
 
 // Whether a tunnel has been made once a line is answered.
@@ -151,7 +132,6 @@ fn answer_call(
 // Makes a line's call about the log, whose store stands in a buffer, and puts its answer.
 fn end_log_line(
     progress: Progress,
-    caller: Caller,
     call: LogCall,
     line: &[u8],
     bytes: &[u8],
@@ -161,7 +141,7 @@ fn end_log_line(
     let console = progress.console;
     let answered = call_log(progress.log, call, line, bytes, log);
     let at = make_room(console.written, out);
-    let end = put_log(out, at, caller, call, answered, log);
+    let end = put_log(out, at, call, answered, log);
     let after = answered.log;
     Progress {
         log: after,
@@ -188,15 +168,12 @@ fn end_line(
     let mut kinds = [0u8; 1025];
     let mut verdicts = [0u8; 1025];
     let console = progress.console;
-    let heading = gathered_heading(console, line);
-    let asked = gathered_line(console, heading, line, &mut counters, &mut kinds, bytes);
-    let caller = heading.caller;
+    let asked = gathered_line(console, line, &mut counters, &mut kinds, bytes);
     if let Line::Log(asked_log) = asked {
-        return end_log_line(progress, caller, asked_log, line, bytes, log, out);
+        return end_log_line(progress, asked_log, line, bytes, log, out);
     }
-    let answered = call_by(
+    let answered = call(
         progress.tunnel,
-        caller,
         asked,
         store,
         &counters,

@@ -7,7 +7,7 @@ use crate::tally::{Tally, case_of, no_cases};
 use callout_log::append::{Appended, append};
 
 // The reports of an append: how much of the lists is lent, and the time and the verdict of the fourth report.
-#[derive(Drop)]
+#[derive(Clone, Copy)]
 struct Reports {
     lent: Lent,
     time: u64,

@@ -48,7 +48,7 @@ pub fn at_most(n: usize, most: usize) -> usize
 }
 
 // How much is lent: the first elements of one list, and those of each other.
-#[derive(Drop)]
+#[derive(Clone, Copy)]
 pub struct Lent {
     pub list: u8,
     pub len: usize,

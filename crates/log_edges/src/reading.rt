@@ -1,5 +1,4 @@
-// The cases of reading, with and without hidden fields. The log has three callouts, oldest first: one record in 48 bytes, none in 16,
-// and three in 112.
+// The cases of reading. The log has three callouts, oldest first: one record in 48 bytes, none in 16, and three in 112.
 ghost use Rattle.std.specs.Prelude.{◌≤◌};
 
 use crate::appending::append_records;
@@ -9,7 +8,6 @@ use crate::lists::{
 };
 use crate::tally::{Tally, case_of, no_cases};
 use callout_log::read::{Walked, read};
-use callout_log::view::read_hidden;
 
 // What is added to a number that turns a call down, so that it is not taken for a number of callouts.
 const NO: usize = 100;
@@ -56,31 +54,8 @@ fn record_at(answer: usize, place: usize) -> usize
     }
 }
 
-// The counter or session id that must be read for a record: 0 where it is hidden; 165 stays for none.
-fn shown(hides: bool, record: usize, number: u64) -> u64 {
-    if !hides {
-        return number;
-    }
-    if record == 7 {
-        return 165;
-    }
-    0
-}
-
-// The local index that must be read for a record, likewise.
-fn shown_index(hides: bool, record: usize, index: u32) -> u32 {
-    if !hides {
-        return index;
-    }
-    if record == 7 {
-        return 165;
-    }
-    0
-}
-
 // Whether the lists hold what they must after an answer.
 fn are_read(
-    hides: bool,
     answer: usize,
     counts: &[u32; 8],
     times: &[u64; 8],
@@ -98,13 +73,13 @@ fn are_read(
         if times[i] != TIME[record] {
             return false;
         }
-        if counters[i] != shown(hides, record, COUNTER[record]) {
+        if counters[i] != COUNTER[record] {
             return false;
         }
-        if session_ids[i] != shown(hides, record, SESSION_ID[record]) {
+        if session_ids[i] != SESSION_ID[record] {
             return false;
         }
-        if local_indices[i] != shown_index(hides, record, LOCAL_INDEX[record]) {
+        if local_indices[i] != LOCAL_INDEX[record] {
             return false;
         }
         if verdicts[i] != VERDICT[record] {
@@ -115,44 +90,8 @@ fn are_read(
     true
 }
 
-// Reads the log in a store, with hidden fields or without.
-fn read_as(
-    hides: bool,
-    store: &[u8],
-    used: usize,
-    counts: &mut [u32],
-    times: &mut [u64],
-    counters: &mut [u64],
-    session_ids: &mut [u64],
-    local_indices: &mut [u32],
-    verdicts: &mut [u8],
-) -> Walked {
-    if hides {
-        return read_hidden(
-            store,
-            used,
-            counts,
-            times,
-            counters,
-            session_ids,
-            local_indices,
-            verdicts,
-        );
-    }
-    read(
-        store,
-        used,
-        counts,
-        times,
-        counters,
-        session_ids,
-        local_indices,
-        verdicts,
-    )
-}
-
 // Whether reading the log in a store into so much of lists of 165s gives an answer.
-fn holds(hides: bool, store: &[u8], used: usize, lent: Lent, answer: usize) -> bool {
+fn holds(store: &[u8], used: usize, lent: Lent, answer: usize) -> bool {
     let mut counts = [165u32; 8];
     let mut times = [165u64; 8];
     let mut counters = [165u64; 8];
@@ -165,8 +104,7 @@ fn holds(hides: bool, store: &[u8], used: usize, lent: Lent, answer: usize) -> b
     let d = lent.of(SESSION_IDS);
     let e = lent.of(LOCAL_INDICES);
     let f = lent.of(VERDICTS);
-    let walked = read_as(
-        hides,
+    let walked = read(
         store,
         used,
         &mut counts[0..a],
@@ -180,7 +118,6 @@ fn holds(hides: bool, store: &[u8], used: usize, lent: Lent, answer: usize) -> b
         return false;
     }
     are_read(
-        hides,
         answer,
         &counts,
         &times,
@@ -192,70 +129,56 @@ fn holds(hides: bool, store: &[u8], used: usize, lent: Lent, answer: usize) -> b
 }
 
 // Writes the log to the front of a store.
-pub fn append_log(store: &mut [u8]) {
+fn append_log(store: &mut [u8]) {
     append_records(store, 0, 1);
     append_records(store, 48, 0);
     append_records(store, 64, 3);
 }
 
-// A place of the 256 bytes behind the log.
-const BEHIND: usize = 255;
-
-// The log in 256 bytes, two of which are set to 255.
-fn small(hides: bool, at: usize, other: usize, used: usize, lent: Lent, answer: usize) -> Tally {
+// The log in 256 bytes, one of which is set to 255.
+fn small(at: usize, lent: Lent, answer: usize) -> Tally {
     let mut store = [165u8; 256];
     append_log(&mut store);
     store[at % 256] = 255;
-    store[other % 256] = 255;
-    case_of(holds(hides, &store, used, lent, answer))
+    case_of(holds(&store, 176, lent, answer))
 }
 
 // Whether reading the log in so many bytes of a store gives an answer.
-fn sized_holds(hides: bool, store: &mut [u8], size: usize, used: usize, answer: usize) -> bool {
+fn sized_holds(store: &mut [u8], size: usize, used: usize, answer: usize) -> bool {
     let room = at_most(256, store.len());
     append_log(&mut store[0..room]);
     let end = at_most(size, store.len());
-    holds(hides, &store[0..end], used, all_of(8), answer)
+    holds(&store[0..end], used, all_of(8), answer)
 }
 
 // The log in so many bytes.
-fn sized(hides: bool, size: usize, used: usize, answer: usize) -> Tally {
+fn sized(size: usize, used: usize, answer: usize) -> Tally {
     let mut store = [165u8; 65537];
-    case_of(sized_holds(hides, &mut store, size, used, answer))
+    case_of(sized_holds(&mut store, size, used, answer))
 }
 
 // Used lengths: those of the first callouts are good.
-fn used_lengths(hides: bool) -> Tally {
-    sized(hides, 0, 0, 0)
-        .plus(sized(hides, 15, 15, NO + 17))
-        .plus(sized(hides, 16, 16, NO + 17))
-        .plus(sized(hides, 47, 47, NO + 17))
-        .plus(sized(hides, 47, 48, NO + 2))
-        .plus(sized(hides, 48, 48, 1))
-        .plus(sized(hides, 64, 64, 2))
-        .plus(sized(hides, 176, 176, 3))
-        .plus(sized(hides, 177, 177, NO + 17))
+fn used_lengths() -> Tally {
+    sized(0, 0, 0)
+        .plus(sized(15, 15, NO + 17))
+        .plus(sized(16, 16, NO + 17))
+        .plus(sized(47, 47, NO + 17))
+        .plus(sized(47, 48, NO + 2))
+        .plus(sized(48, 48, 1))
+        .plus(sized(64, 64, 2))
+        .plus(sized(176, 176, 3))
+        .plus(sized(177, 177, NO + 17))
 }
 
 // Stores of the most bytes, and of one more.
-fn most_bytes(hides: bool) -> Tally {
-    sized(hides, 65536, 0, 0)
-        .plus(sized(hides, 65536, 176, 3))
-        .plus(sized(hides, 65536, 65535, NO + 17))
-        .plus(sized(hides, 65536, 65536, NO + 17))
-        .plus(sized(hides, 65536, 65537, NO + 2))
-        .plus(sized(hides, 65536, 18446744073709551615, NO + 2))
-        .plus(sized(hides, 65537, 0, NO + 2))
-        .plus(sized(hides, 65537, 176, NO + 2))
-        .plus(sized(hides, 65537, 65537, NO + 2))
-}
-
-// Stores of one byte less than the most.
-fn one_less(hides: bool) -> Tally {
-    sized(hides, 65535, 176, 3)
-        .plus(sized(hides, 65535, 65534, NO + 17))
-        .plus(sized(hides, 65535, 65535, NO + 17))
-        .plus(sized(hides, 65535, 65536, NO + 2))
+fn most_bytes() -> Tally {
+    sized(65536, 0, 0)
+        .plus(sized(65536, 176, 3))
+        .plus(sized(65536, 65536, NO + 17))
+        .plus(sized(65536, 65537, NO + 2))
+        .plus(sized(65536, 18446744073709551615, NO + 2))
+        .plus(sized(65537, 0, NO + 2))
+        .plus(sized(65537, 176, NO + 2))
 }
 
 // The answer where so many elements of a list are lent and so many are needed.
@@ -267,149 +190,59 @@ fn answer_for(len: usize, needed: usize) -> usize {
 }
 
 // Every length of one list, of which so many elements are needed, beside lists of another length that is enough.
-fn lengths(hides: bool, list: u8, needed: usize, others: usize) -> Tally {
+fn lengths(list: u8, needed: usize, others: usize) -> Tally {
     let mut tally = no_cases();
     let mut len = 0usize;
     while len < 9 {
         let lent = Lent { list, len, others };
-        tally = tally.plus(small(hides, BEHIND, BEHIND, 176, lent, answer_for(len, needed)));
+        tally = tally.plus(small(255, lent, answer_for(len, needed)));
         len = len + 1;
     }
     tally
 }
 
 // Every list.
-fn lists(hides: bool, others: usize) -> Tally {
-    lengths(hides, COUNTS, 3, others)
-        .plus(lengths(hides, TIMES, 4, others))
-        .plus(lengths(hides, COUNTERS, 4, others))
-        .plus(lengths(hides, SESSION_IDS, 4, others))
-        .plus(lengths(hides, LOCAL_INDICES, 4, others))
-        .plus(lengths(hides, VERDICTS, 4, others))
+fn lists(others: usize) -> Tally {
+    lengths(COUNTS, 3, others)
+        .plus(lengths(TIMES, 4, others))
+        .plus(lengths(COUNTERS, 4, others))
+        .plus(lengths(SESSION_IDS, 4, others))
+        .plus(lengths(LOCAL_INDICES, 4, others))
+        .plus(lengths(VERDICTS, 4, others))
 }
 
-// How the log is read with a byte of it set to 255: with hidden fields or without, with another byte set too, up to a used length and
-// with so much of every list lent, and the answer that must come.
-#[derive(Drop)]
-struct Broken {
-    hides: bool,
-    other: usize,
-    used: usize,
-    len: usize,
-    answer: usize,
-}
-
-impl Broken {
-    // A byte set to 255.
-    fn at(self, at: usize) -> Tally {
-        small(
-            self.hides,
-            at,
-            self.other,
-            self.used,
-            all_of(self.len),
-            self.answer,
-        )
+// Each byte from a place to another set to 255, with so much of every list lent.
+fn bytes(from: usize, to: usize, len: usize, number: usize) -> Tally {
+    let mut tally = no_cases();
+    let mut at = from;
+    while at < to {
+        tally = tally.plus(small(at, all_of(len), NO + number % 256));
+        at = at + 1;
     }
-
-    // Each byte from a place to another set to 255.
-    fn bytes(self, from: usize, to: usize) -> Tally {
-        let mut tally = no_cases();
-        let mut at = from;
-        while at < to {
-            tally = tally.plus(self.at(at));
-            at = at + 1;
-        }
-        tally
-    }
-
-    // The bytes of each trailer.
-    fn trailers(self) -> Tally {
-        self.bytes(32, 64).plus(self.bytes(160, 176))
-    }
-
-    // The last byte of the time, the verdict and the zero bytes of each record.
-    fn records(self) -> Tally {
-        self.bytes(7, 8)
-            .plus(self.bytes(28, 32))
-            .plus(self.bytes(71, 72))
-            .plus(self.bytes(92, 96))
-            .plus(self.bytes(103, 104))
-            .plus(self.bytes(124, 128))
-            .plus(self.bytes(135, 136))
-            .plus(self.bytes(156, 160))
-    }
+    tally
 }
 
-// The log with broken bytes, up to its used length.
-fn all_used(hides: bool, other: usize, len: usize, answer: usize) -> Broken {
-    Broken {
-        hides,
-        other,
-        used: 176,
-        len,
-        answer,
-    }
+// The bytes of each trailer.
+fn trailers(len: usize) -> Tally {
+    bytes(32, 64, len, 17).plus(bytes(160, 176, len, 17))
 }
 
-// Broken trailers.
-fn trailers(hides: bool) -> Tally {
-    all_used(hides, BEHIND, 8, NO + 17)
-        .trailers()
-        .plus(all_used(hides, BEHIND, 0, NO + 17).trailers())
-}
-
-// Broken records.
-fn records(hides: bool) -> Tally {
-    all_used(hides, BEHIND, 8, NO + 18)
-        .records()
-        .plus(all_used(hides, BEHIND, 0, NO + 18).records())
-}
-
-// Broken trailers beside the oldest record or the newest, broken too.
-fn trailers_and_records(hides: bool) -> Tally {
-    all_used(hides, 7, 8, NO + 17)
-        .trailers()
-        .plus(all_used(hides, 156, 8, NO + 17).trailers())
-}
-
-// Broken trailers in a store of which more is used than there is.
-fn trailers_and_used(hides: bool) -> Tally {
-    Broken {
-        hides,
-        other: BEHIND,
-        used: 257,
-        len: 8,
-        answer: NO + 2,
-    }
-    .trailers()
-}
-
-// Stores and used lengths at their edges.
-fn stores(hides: bool) -> Tally {
-    used_lengths(hides)
-        .plus(most_bytes(hides))
-        .plus(one_less(hides))
+// The last byte of the time, the verdict and the zero bytes of each record.
+fn records(len: usize) -> Tally {
+    bytes(7, 8, len, 18)
+        .plus(bytes(28, 32, len, 18))
+        .plus(bytes(71, 72, len, 18))
+        .plus(bytes(92, 96, len, 18))
+        .plus(bytes(103, 104, len, 18))
+        .plus(bytes(124, 128, len, 18))
+        .plus(bytes(135, 136, len, 18))
+        .plus(bytes(156, 160, len, 18))
 }
 
 // Writes the groups of reading.
 pub fn read_groups() {
-    stores(false).print(b"read, stores");
-    lists(false, 4).plus(lists(false, 8)).print(b"read, lists");
-    trailers(false).print(b"read, trailers");
-    records(false).print(b"read, records");
-    trailers_and_records(false).print(b"read, 17 before 18");
-    trailers_and_used(false).print(b"read, 2 before 17");
-}
-
-// Writes the groups of reading with hidden fields.
-pub fn read_hidden_groups() {
-    stores(true).print(b"read hidden, stores");
-    lists(true, 4)
-        .plus(lists(true, 8))
-        .print(b"read hidden, lists");
-    trailers(true).print(b"read hidden, trailers");
-    records(true).print(b"read hidden, records");
-    trailers_and_records(true).print(b"read hidden, 17 before 18");
-    trailers_and_used(true).print(b"read hidden, 2 before 17");
+    used_lengths().plus(most_bytes()).print(b"read, stores");
+    lists(4).plus(lists(8)).print(b"read, lists");
+    trailers(8).plus(trailers(0)).print(b"read, trailers");
+    records(8).plus(records(0)).print(b"read, records");
 }

@@ -7,7 +7,7 @@ use Prim.Native.Nat.{ℕ, ◌+◌, ◌-◌, ◌≤◌, ◌<◌}
 use native.Mathlib.Omega.{arith}
 use lib.Dec.{leb, eqb}
 use lib.ListN.{length, get_or, take, drop, take-append-drop}
-use lib.Seq.{take_add}
+use lib.Seq.{take-add}
 use borrow.Author.Tests.{eq-eqb, ne_eqb, leb-true, leb-false, eqb-true, eqb-false}
 use Rattle.base.specs.Choice.{choose}
 use Rattle.base.proofs.Choice.{known_choice}
@@ -74,7 +74,7 @@ module _ (message : List ℕ) (b : Bytes message) where
   header_again l t =
       let first : to_le_bytes 4 4 ≡ take 4 (drop 0 message) = ap (to_le_bytes 4) (sym t) ∙ little_endian_law.part 0 4 message b (omega arith) in
       rw (first, little_endian_law.part 4 4 message b (omega arith), little_endian_law.part 8 8 message b (omega arith))
-      (sym (take_add 8 8 message ∙ ap (λ (m : List ℕ). m ++ take 8 (drop 8 message)) (take_add 4 4 message)))
+      (sym (take-add 8 8 message ∙ ap (λ (m : List ℕ). m ++ take 8 (drop 8 message)) (take-add 4 4 message)))
 
 -- only a data message has a data message's values
 data_values : (m : ReceivedMessage) (receiver counter : ℕ) → message_values m ≡ 4 ∷ receiver ∷ counter ∷ [] → m ≡ TransportData receiver counter

@@ -4,7 +4,7 @@ use mathlib.Core.Path.{◌≡◌, ap, ◌∙◌}
 use mathlib.Core.List.{List, [], ◌++◌, append-nil}
 use Prim.Native.Nat.{ℕ, ◌+◌}
 use native.Mathlib.Omega.{arith}
-use lib.ListN.{length, drop, length_append, length-drop, drop_of_length-le}
+use lib.ListN.{length, drop, length-append, length-drop, drop_of_length-le}
 use borrow.Author.Tests.{eq-eqb, ne_eqb}
 use borrow.Rule.Slice.PartMut.{put_mid}
 use Rattle.base.specs.Choice.{choose}
@@ -29,7 +29,7 @@ module _ (bytes : List ℕ) (receiver counter : ℕ) where
         let none : drop 8 (drop 4 (drop 4 (drop 0 bytes))) ≡ [] =
         drop_of_length-le (drop 4 (drop 4 bytes)) {i = 8} (omega (arith, length-drop 4 (drop 4 bytes), length-drop 4 bytes)) in
         ap (λ (l : List ℕ). put_mid 8 8 l count) (put_next type (drop 4 (drop 0 bytes)) index 4 4 four)
-        ∙ put_next (type ++ index) (drop 4 (drop 4 (drop 0 bytes))) count 8 8 (length_append type index ∙ omega arith)
+        ∙ put_next (type ++ index) (drop 4 (drop 4 (drop 0 bytes))) count 8 8 (length-append type index ∙ omega arith)
         ∙ rw (none, append-nil (type ++ index ++ count), a, b, c)
 
     pub header_written : length bytes ≡ 16 → WritesHeader bytes (put_mid 8 8 (put_mid 4 4 (type ++ drop 4 (drop 0 bytes)) index) count) receiver counter Done

@@ -17,7 +17,7 @@ fn put_range(out: &mut [u8], at: usize, range: Range) -> usize {
 }
 
 // The words that an answer begins with.
-#[derive(Drop)]
+#[derive(Clone, Copy)]
 enum Words {
     No,
     Done,
@@ -34,7 +34,7 @@ enum Words {
 }
 
 // An answer: its words, and how many of the three numbers follow them.
-#[derive(Drop)]
+#[derive(Clone, Copy)]
 struct Reply {
     words: Words,
     count: u8,

@@ -2,9 +2,7 @@
 ghost use Rattle.std.specs.Prelude.{length};
 ghost use Rattle.script.specs.Places.{Places};
 
-use crate::caller::Caller;
 use crate::line::{HandshakeCall, Line, SessionCall};
-use access::user::User;
 use sessions::session::Time;
 use tunnel::answer::Answer;
 use tunnel::tunnel::{Answered, Tunnel};
@@ -117,17 +115,9 @@ fn call_receive(
     )
 }
 
-// A call that is outside every user's rights.
-fn outside(tunnel: Tunnel) -> Answered {
-    Answered {
-        tunnel,
-        answer: Answer::No(20),
-    }
-}
-
-// Makes a line's call. A line that cannot be read is turned down, and one that is outside every user's rights; a split, the skips, the
-// index told ahead, a datagram, a header and the log are no calls of the tunnel.
-fn call(
+// Makes a line's call. A line that cannot be read is turned down; a split, the skips, the index told ahead, a datagram, a header and
+// the log are no calls of the tunnel.
+pub fn call(
     tunnel: Tunnel,
     line: Line,
     store: &mut [u64],
@@ -141,7 +131,6 @@ fn call(
             tunnel,
             answer: Answer::No(2),
         },
-        Line::Outside => return outside(tunnel),
         Line::New {
             index,
             keepalive,
@@ -176,115 +165,5 @@ fn call(
             tunnel,
             answer: Answer::Done,
         },
-    }
-}
-
-// Makes a user's call about the sessions, the timers and the events.
-fn call_desk_session(tunnel: Tunnel, user: User, call: SessionCall, store: &mut [u64]) -> Answered {
-    match call {
-        SessionCall::Send { count, time } => return user.send(tunnel, count, time),
-        SessionCall::Look {
-            index: _,
-            counter: _,
-            time: _,
-        } => return outside(tunnel),
-        SessionCall::Wake { jitter, time } => {
-            return user.handle_timeout(tunnel, store, jitter, time);
-        }
-        SessionCall::Settle { jitter, time } => return user.settle(tunnel, store, jitter, time),
-        SessionCall::Event => return user.poll_event(tunnel),
-        SessionCall::Next => return user.poll_timeout(tunnel),
-        SessionCall::Missing { index } => return user.missing(tunnel, store, index),
-        SessionCall::Heard { index: _ } => return outside(tunnel),
-    }
-}
-
-// Receives, for a user, the messages that stand in the first places of the lists.
-fn call_desk_receive(
-    tunnel: Tunnel,
-    user: User,
-    store: &mut [u64],
-    index: u32,
-    session: u64,
-    time: u64,
-    messages: usize,
-    counters: &[u64],
-    kinds: &[u8],
-    verdicts: &mut [u8],
-    skips: &mut [u64],
-) -> Answered {
-    let n = places(messages, counters, kinds, verdicts, skips);
-    user.receive(
-        tunnel,
-        store,
-        index,
-        session,
-        time,
-        &counters[..n],
-        &kinds[..n],
-        &mut verdicts[..n],
-        &mut skips[..n],
-    )
-}
-
-// Makes a user's call of a line. One that is no guarded call is turned down: it cannot be read, or is outside every user's rights.
-fn call_desk(
-    tunnel: Tunnel,
-    user: User,
-    line: Line,
-    store: &mut [u64],
-    counters: &[u64],
-    kinds: &[u8],
-    verdicts: &mut [u8],
-    skips: &mut [u64],
-) -> Answered {
-    if let Line::Unreadable = line {
-        return Answered {
-            tunnel,
-            answer: Answer::No(2),
-        };
-    }
-    if let Line::Session(call) = line {
-        return call_desk_session(tunnel, user, call, store);
-    }
-    if let Line::Recv {
-        index,
-        session,
-        time,
-        messages,
-    } = line
-    {
-        return call_desk_receive(
-            tunnel, user, store, index, session, time, messages, counters, kinds, verdicts, skips,
-        );
-    }
-    outside(tunnel)
-}
-
-// Makes a line's call for its caller.
-pub fn call_by(
-    tunnel: Tunnel,
-    caller: Caller,
-    line: Line,
-    store: &mut [u64],
-    counters: &[u64],
-    kinds: &[u8],
-    verdicts: &mut [u8],
-    skips: &mut [u64],
-) -> Answered {
-    match caller {
-        Caller::Radio => return call(tunnel, line, store, counters, kinds, verdicts, skips),
-        Caller::Desk(kind) => {
-            return call_desk(
-                tunnel,
-                User { kind },
-                line,
-                store,
-                counters,
-                kinds,
-                verdicts,
-                skips,
-            );
-        }
     }
 }

@@ -1,7 +1,8 @@
 // The lines of the program drive: read, made into calls, and answered in text. Functions on slices; no input or output.
+#![tactic(auto)]
+
 pub mod answer;
 pub mod call;
-pub mod caller;
 pub mod datagram;
 pub mod line;
 pub mod log_line;

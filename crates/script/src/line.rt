@@ -8,7 +8,7 @@ use text::hex::{Hex, read_hex};
 use text::word::{skip_spaces, word_end};
 
 // A call about a handshake.
-#[derive(Drop)]
+#[derive(Clone, Copy)]
 pub enum HandshakeCall {
     Init {
         time: u64,
@@ -35,7 +35,7 @@ pub enum HandshakeCall {
 }
 
 // A call about the sessions, the timers and the events.
-#[derive(Drop)]
+#[derive(Clone, Copy)]
 pub enum SessionCall {
     Send { count: u64, time: u64 },
     Look { index: u32, counter: u64, time: u64 },
@@ -48,7 +48,7 @@ pub enum SessionCall {
 }
 
 // A line that was read: a call with its arguments, or none that can be read.
-#[derive(Drop)]
+#[derive(Clone, Copy)]
 pub enum Line {
     Unreadable,
     New {
@@ -82,8 +82,6 @@ pub enum Line {
         counter: u64,
     },
     Log(LogCall),
-    // A line that can be read, of a user for a call that is outside every user's rights.
-    Outside,
 }
 
 // The line that gives the log a store of so many bytes, up to 70,000.
@@ -108,14 +106,6 @@ fn walk_line(callouts: u64, records: u64) -> Line {
         callouts: callouts as usize,
         records: records as usize,
     })
-}
-
-// The line that views the log with so many lent bytes, up to 65,536.
-fn view_line(len: u64) -> Line {
-    if len > 65536 {
-        return Line::Unreadable;
-    }
-    Line::Log(LogCall::View { len: len as usize })
 }
 
 // The line of a call with its numbers, and with so many messages or bytes where the lists that were lent hold any; the reports of a
@@ -204,7 +194,6 @@ fn line_of(name: Name, n: Numbers, held: usize) -> Line {
             end: held,
         }),
         Name::Walk => walk_line(n.first, n.second),
-        Name::View => view_line(n.first),
     }
 }
 

@@ -1,18 +1,15 @@
 // The lines about the callout log: made into calls, and answered in text.
 ghost use Rattle.std.specs.Prelude.{◌≤◌};
 
-use crate::caller::Caller;
 use crate::datagram::{put_bytes, put_no};
 use crate::reports::read_reports;
-use access::user::User;
 use callout_log::append::{Appended, append};
 use callout_log::read::{Walked, read};
-use callout_log::view::{Viewed, view};
 use text::gather::copy;
 use text::text::{put, put_number, put_text};
 
 // A line about the log.
-#[derive(Drop)]
+#[derive(Clone, Copy)]
 pub enum LogCall {
     Store { size: usize },
     Used { used: usize },
@@ -22,18 +19,17 @@ pub enum LogCall {
     // The reports stand in this part of the line.
     Append { from: usize, end: usize },
     Walk { callouts: usize, records: usize },
-    View { len: usize },
 }
 
 // The log of drive: how many bytes of its buffer are the store, and the used length that is handed in.
-#[derive(Drop)]
+#[derive(Clone, Copy)]
 pub struct Log {
     pub size: usize,
     pub used: usize,
 }
 
 // What a call about the log answers.
-#[derive(Drop)]
+#[derive(Clone, Copy)]
 pub enum LogAnswer {
     No(u8),
     Done,
@@ -41,7 +37,7 @@ pub enum LogAnswer {
 }
 
 // The log after a call, and the answer.
-#[derive(Drop)]
+#[derive(Clone, Copy)]
 pub struct LogAnswered {
     pub log: Log,
     pub answer: LogAnswer,
@@ -210,7 +206,7 @@ fn put_log_answer(out: &mut [u8], at: usize, answer: LogAnswer) -> usize {
     }
 }
 
-// Puts bytes of a store or of a view.
+// Puts bytes of a store.
 fn put_peek(out: &mut [u8], at: usize, store: &[u8], from: usize, len: usize) -> usize {
     if from > store.len() {
         return put_no(out, at, 2);
@@ -348,52 +344,10 @@ fn put_walked(
     }
 }
 
-// Reads the log in a store for its caller.
-fn read_by(
-    caller: Caller,
-    store: &[u8],
-    used: usize,
-    counts: &mut [u32],
-    times: &mut [u64],
-    counters: &mut [u64],
-    session_ids: &mut [u64],
-    local_indices: &mut [u32],
-    verdicts: &mut [u8],
-) -> Walked {
-    match caller {
-        Caller::Radio => {
-            return read(
-                store,
-                used,
-                counts,
-                times,
-                counters,
-                session_ids,
-                local_indices,
-                verdicts,
-            );
-        }
-        Caller::Desk(kind) => {
-            let user = User { kind };
-            return user.read(
-                store,
-                used,
-                counts,
-                times,
-                counters,
-                session_ids,
-                local_indices,
-                verdicts,
-            );
-        }
-    }
-}
-
 // Walks a log in a store with lists of so many counts and records, and puts what that answers.
 fn put_walk(
     out: &mut [u8],
     at: usize,
-    caller: Caller,
     store: &[u8],
     used: usize,
     callouts: usize,
@@ -407,8 +361,7 @@ fn put_walk(
     let mut verdicts = [0u8; 2048];
     let c = least(callouts, 4096);
     let r = least(records, 2048);
-    let walked = read_by(
-        caller,
+    let walked = read(
         store,
         used,
         &mut counts[..c],
@@ -431,45 +384,10 @@ fn put_walk(
     )
 }
 
-// Views the log in a store for its caller: the radio sees it whole, as a controller does.
-fn view_by(caller: Caller, store: &[u8], used: usize, bytes: &mut [u8]) -> Viewed {
-    match caller {
-        Caller::Radio => return view(store, used, false, bytes),
-        Caller::Desk(kind) => {
-            let user = User { kind };
-            return user.view(store, used, bytes);
-        }
-    }
-}
-
-// Puts what viewing answers.
-fn put_viewed(out: &mut [u8], at: usize, viewed: Viewed, bytes: &[u8; 65536]) -> usize {
-    match viewed {
-        Viewed::No(number) => put_no(out, at, number),
-        Viewed::Bytes(len) => put_peek(out, at, bytes, 0, len),
-    }
-}
-
-// Views a log in a store with so many lent bytes, and puts what that answers.
-fn put_view(
-    out: &mut [u8],
-    at: usize,
-    caller: Caller,
-    store: &[u8],
-    used: usize,
-    len: usize,
-) -> usize {
-    let mut bytes = [0u8; 65536];
-    let n = least(len, 65536);
-    let viewed = view_by(caller, store, used, &mut bytes[..n]);
-    put_viewed(out, at, viewed, &bytes)
-}
-
 // Puts what a call about the log answers.
 fn put_log_reply(
     out: &mut [u8],
     at: usize,
-    caller: Caller,
     call: LogCall,
     answered: LogAnswered,
     buffer: &[u8],
@@ -481,23 +399,19 @@ fn put_log_reply(
         return put_peek(out, at, &buffer[..n], from, len);
     }
     if let LogCall::Walk { callouts, records } = call {
-        return put_walk(out, at, caller, &buffer[..n], log.used, callouts, records);
-    }
-    if let LogCall::View { len } = call {
-        return put_view(out, at, caller, &buffer[..n], log.used, len);
+        return put_walk(out, at, &buffer[..n], log.used, callouts, records);
     }
     put_log_answer(out, at, answer)
 }
 
-// Puts the line that answers a line about the log, made by its caller.
+// Puts the line that answers a line about the log.
 pub fn put_log(
     out: &mut [u8],
     at: usize,
-    caller: Caller,
     call: LogCall,
     answered: LogAnswered,
     buffer: &[u8],
 ) -> usize {
-    let end = put_log_reply(out, at, caller, call, answered, buffer);
+    let end = put_log_reply(out, at, call, answered, buffer);
     put(out, end, b'\n')
 }

@@ -3,14 +3,14 @@ use sessions::batch::{DATA, FAILED, KEEPALIVE};
 use text::word::{Field, read_number, skip_spaces, word_end};
 
 // A message of a batch, and the position after it.
-#[derive(Drop)]
+#[derive(Clone, Copy)]
 pub enum Message {
     NoMessage,
     Opened(u64, u8, usize),
 }
 
 // The messages of a batch: how many the lists hold.
-#[derive(Drop)]
+#[derive(Clone, Copy)]
 pub enum Messages {
     BadMessage,
     Stored(usize),

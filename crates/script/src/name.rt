@@ -2,7 +2,7 @@
 use text::word::same;
 
 // The name of a call, or a word that names none.
-#[derive(Drop)]
+#[derive(Clone, Copy)]
 pub enum Name {
     Unknown,
     New,
@@ -31,7 +31,6 @@ pub enum Name {
     Peek,
     Append,
     Walk,
-    View,
 }
 
 // The name of a handshake's call.
@@ -54,17 +53,6 @@ fn handshake_name(word: &[u8]) -> Name {
     Name::Unknown
 }
 
-// The name of a line that reads the log or of a call about a handshake.
-fn reading_name(word: &[u8]) -> Name {
-    if same(word, b"walk") {
-        return Name::Walk;
-    }
-    if same(word, b"view") {
-        return Name::View;
-    }
-    handshake_name(word)
-}
-
 // The name of a line about the log or of a call about a handshake.
 fn log_name(word: &[u8]) -> Name {
     if same(word, b"store") {
@@ -82,7 +70,10 @@ fn log_name(word: &[u8]) -> Name {
     if same(word, b"append") {
         return Name::Append;
     }
-    reading_name(word)
+    if same(word, b"walk") {
+        return Name::Walk;
+    }
+    handshake_name(word)
 }
 
 // The name of a line about datagrams or the log, or of a call about a handshake.

@@ -3,7 +3,7 @@ use crate::name::Name;
 use text::word::{Field, read_number};
 
 // Up to four numbers, and the position after them. Those that a call does not have are zeros.
-#[derive(Drop)]
+#[derive(Clone, Copy)]
 pub struct Numbers {
     pub all: bool,
     pub first: u64,
@@ -43,7 +43,6 @@ pub fn numbers_of(name: Name) -> u64 {
         Name::Peek => 2,
         Name::Append => 0,
         Name::Walk => 2,
-        Name::View => 1,
     }
 }
 
@@ -77,7 +76,6 @@ pub fn indices_of(name: Name) -> u64 {
         Name::Peek => 0,
         Name::Append => 0,
         Name::Walk => 0,
-        Name::View => 0,
     }
 }
 

@@ -4,7 +4,7 @@ ghost use Rattle.std.specs.Prelude.{◌≤◌, length};
 use crate::numbers::{read_numbers, readable};
 
 // A report of a callout.
-#[derive(Drop)]
+#[derive(Clone, Copy)]
 pub struct Report {
     pub time: u64,
     pub counter: u64,
@@ -14,7 +14,7 @@ pub struct Report {
 }
 
 // A report that was read, and the position after it.
-#[derive(Drop)]
+#[derive(Clone, Copy)]
 enum Group {
     NoReport,
     Told(Report, usize),

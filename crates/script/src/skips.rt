@@ -5,7 +5,7 @@ use tunnel::answer::Answer;
 
 // The skips of the last batch that was answered good since the tunnel was made: there is none yet, or they stand in so many places of
 // a list. The list is lent to each batch, and one that is turned down leaves it as it came.
-#[derive(Drop)]
+#[derive(Clone, Copy)]
 pub enum Skips {
     Nothing,
     Held(usize),

@@ -1,6 +1,6 @@
 -- The counters that a session grants, one reservation after the other, count up from its send counter and end at LIMIT at most.
 -- Assumes nothing.
-use Rattle.std.proofs.Common.{◌≡◌, ℕ, ◌+◌, ◌≤◌, Bool, true, false, leb, List, [], ◌∷◌, ◌++◌, length, sym, refl, ap, ◌∙◌, arith, length_append, leb-true}
+use Rattle.std.proofs.Common.{◌≡◌, ℕ, ◌+◌, ◌≤◌, Bool, true, false, leb, List, [], ◌∷◌, ◌++◌, length, sym, refl, ap, ◌∙◌, arith, length-append, leb-true}
 use Rattle.base.specs.Choice.{choose}
 use Rattle.base.specs.Lists.{up_from}
 use Rattle.base.proofs.Counting.{length-up_from, join-up_from}
@@ -35,7 +35,7 @@ counts_step s len lens same next false e = rw (refuses s len lens e) same
 counts_step s len lens same next true e =
     let fits : s.sending_key_counter + len ≤ limit = leb-true (s.sending_key_counter + len) limit e in
     let size : length (up_from s.sending_key_counter len ++ granted (onward s len) lens) ≡ len + length (granted (onward s len) lens) =
-    length_append (up_from s.sending_key_counter len) (granted (onward s len) lens) ∙ ap (λ (n : ℕ). n + length (granted (onward s len) lens)) (length-up_from s.sending_key_counter len) in
+    length-append (up_from s.sending_key_counter len) (granted (onward s len) lens) ∙ ap (λ (n : ℕ). n + length (granted (onward s len) lens)) (length-up_from s.sending_key_counter len) in
     rw (grants s len lens e)
     (record {
       counts = ap (λ (l : List ℕ). up_from s.sending_key_counter len ++ l) next.counts

@@ -1,6 +1,6 @@
 -- The lent store by slots: what a part of it is, and what a part put back leaves.
 -- Assumes nothing.
-use Rattle.std.proofs.Common.{◌≡◌, ℕ, ◌+◌, ◌-◌, ◌*◌, ◌<◌, ◌≤◌, List, ◌++◌, length, take, drop, sym, ap, ◌∙◌, append_assoc, arith, length_append, length-drop, take-append-drop, length-take, length-take-le, take_all, drop-drop, take_at, drop_at}
+use Rattle.std.proofs.Common.{◌≡◌, ℕ, ◌+◌, ◌-◌, ◌*◌, ◌<◌, ◌≤◌, List, ◌++◌, length, take, drop, sym, ap, ◌∙◌, append_assoc, arith, length-append, length-drop, take-append-drop, length-take, length-take-le, take_all, drop-drop, take_at, drop_at}
 use native.Mathlib.Decide.{dec_le}
 use lib.Seq.{take-append-le, drop-append-le, drop-append-add}
 use borrow.Rule.Slice.PartMut.{put_mid}
@@ -57,7 +57,7 @@ module _ (store words : List ℕ) (k : ℕ) (l : length store ≡ 1024) (low : k
 
   pub length_put : length (put_slot store k words) ≡ 1024
   unfolding put_slot
-  length_put = simp (length_append, length-drop) (omega (arith, before, few))
+  length_put = simp (length-append, length-drop) (omega (arith, before, few))
 
   -- the slot itself
   pub slot_same : length words ≡ 128 → slot_words (put_slot store k words) k ≡ words
@@ -78,7 +78,7 @@ module _ (store words : List ℕ) (k : ℕ) (l : length store ≡ 1024) (low : k
   slot_after_lem : (j : ℕ) → k < j → slot_words (put_slot store k words) j ≡ slot_words store j
   unfolding slot_words put_slot
   slot_after_lem j h =
-      let size : length (take (128 * k) store ++ these) ≡ 128 * k + length these = rw length_append (omega (arith, before)) in
+      let size : length (take (128 * k) store ++ these) ≡ 128 * k + length these = rw length-append (omega (arith, before)) in
       let place : 128 * j ≡ length (take (128 * k) store ++ these) + (128 * j - (128 * k + length these)) = omega (arith, size, few) in
       let there : 128 * k + length these + (128 * j - (128 * k + length these)) ≡ 128 * j = omega (arith, few) in
       ap (take 128)

@@ -8,7 +8,7 @@ use native.Mathlib.Numerals.{add-one}
 use native.Mathlib.Omega.{arith}
 use lib.Dec.{eqb}
 use lib.ListN.{length, get_or, set, drop, length-set, drop_of_length-le}
-use lib.Seq.{drop-cons, drop_set_lt, get_or-set_same}
+use lib.Seq.{drop-cons, drop-set-lt, get_or-set_same}
 use borrow.Author.Tests.{lt-ltb, le-ltb, eq-eqb, ne_eqb, eqb-true}
 use Rattle.base.specs.Choice.{choose}
 use Rattle.text.specs.Number.{greatest, with_digit, case_number, number_from, number_of, digits_from, digits_of, Spelt, ReadsBack}
@@ -86,7 +86,7 @@ spelling_begins n bytes l =
 stored : (bytes : List ℕ) (j v : ℕ) → j < length bytes → drop j (set bytes j v) ≡ v ∷ drop (suc j) bytes
 stored bytes j v h =
     let longer : j < length (set bytes j v) = rw length-set h in
-    let later : drop (suc j) (set bytes j v) ≡ drop (suc j) bytes = drop_set_lt (suc j) bytes j v (omega arith) in
+    let later : drop (suc j) (set bytes j v) ≡ drop (suc j) bytes = drop-set-lt (suc j) bytes j v (omega arith) in
     drop-cons (set bytes j v) j 0 longer ∙ rw (get_or-set_same bytes j v 0 h, later)
 
 module _ (n : ℕ) (bytes : List ℕ) (i rest : ℕ) (s : Spelling n bytes i rest) where

@@ -8,7 +8,7 @@ use Prim.Native.Nat.{ℕ, suc, ◌+◌, ◌*◌, ◌/◌, ◌%◌, ◌≤◌, �
 use native.Mathlib.Numerals.{add-one}
 use native.Mathlib.Omega.{arith}
 use lib.ListN.{length, get_or, set, take, drop, length-set, drop_of_length-le, take-append-drop}
-use lib.Seq.{length-take-le, drop-cons, drop-drop, drop_set_lt, take-suc-set}
+use lib.Seq.{length-take-le, drop-cons, drop-drop, drop-set-lt, take-suc-set}
 use lib.Dec.{eqb, leb}
 use borrow.Author.Tests.{leb-true, le-leb, lt-leb, eq-eqb, ne_eqb}
 use Rattle.base.specs.Choice.{choose}
@@ -229,7 +229,7 @@ module _ (word came : List ℕ) where
           left = rw next (both_right _ _ (step h));
           front = s.front ∙ rw (pair_read byte h e, in_front_with, next, longer);
           behind =
-              drop_set_lt (i + 1) now i byte (omega arith) ∙ sym (drop-drop 1 i now) ∙ ap (λ (l : List ℕ). drop 1 l) s.behind ∙ drop-drop 1 i came;
+              drop-set-lt (i + 1) now i byte (omega arith) ∙ sym (drop-drop 1 i now) ∙ ap (λ (l : List ℕ). drop 1 l) s.behind ∙ drop-drop 1 i came;
         }
 
     all_read : length word / 2 ≤ i → pair_bytes word ≡ some (take i now)

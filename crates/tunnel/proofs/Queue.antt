@@ -7,7 +7,7 @@ use native.Mathlib.Nat.{add-zero}
 use native.Mathlib.Decide.{ℕ_discrete}
 use native.Mathlib.Numerals.{add-one}
 use native.Mathlib.Omega.{arith}
-use lib.ListN.{length, set, drop, length-set, length_append}
+use lib.ListN.{length, set, drop, length-set, length-append}
 use lib.Seq.{get_or-set_same, get_or-set_other}
 use borrow.Author.Tests.{eq-eqb, ne_eqb}
 use Rattle.base.specs.Choice.{choose}
@@ -77,13 +77,13 @@ module _ (slots : List Slot) (event : Event) (head place : ℕ) (long : length s
 newest_short : (xs : List Event) (event : Event) → length xs < 16 → newest (xs ++ event ∷ []) ≡ xs ++ event ∷ []
 unfolding newest
 newest_short xs event h =
-    let e : length (xs ++ event ∷ []) - 16 ≡ 0 = omega (arith, length_append xs (event ∷ [])) in
+    let e : length (xs ++ event ∷ []) - 16 ≡ 0 = omega (arith, length-append xs (event ∷ [])) in
     rw e
 
 newest_full : (x : Event) (xs : List Event) (event : Event) → length xs ≡ 15 → newest ((x ∷ xs) ++ event ∷ []) ≡ xs ++ event ∷ []
 unfolding newest
 newest_full x xs event h =
-    let e : length ((x ∷ xs) ++ event ∷ []) - 16 ≡ 1 = omega (arith, length_append xs (event ∷ [])) in
+    let e : length ((x ∷ xs) ++ event ∷ []) - 16 ≡ 1 = omega (arith, length-append xs (event ∷ [])) in
     rw e
 
 -- a full ring's events, the oldest apart

@@ -1,8 +1,9 @@
 // Replays on the window the lines that the Rust's window was given, `reset`, `look COUNTER` and `commit COUNTER`, and writes what it
 // answers: `ok`; the verdict; the verdict, the next expected counter, the number of set bits and the skipped counters.
+#![tactic(auto)]
 
 // The line read so far: its first letter and its number.
-#[derive(Drop)]
+#[derive(Clone, Copy)]
 struct Line {
     first: u8,
     number: u64,

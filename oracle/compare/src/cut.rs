@@ -71,10 +71,9 @@ fn shrink_line(
         .split(|byte| *byte == b' ')
         .map(<[u8]>::to_vec)
         .collect();
-    let user = if words[0] == b"as" { 2 } else { 0 };
-    let (front, each) = match words.get(user).map(Vec::as_slice) {
-        Some(b"recv") => (user + 4, 2),
-        Some(b"append") => (user + 1, 5),
+    let (front, each) = match &words[0][..] {
+        b"recv" => (4, 2),
+        b"append" => (1, 5),
         _ => return lines,
     };
     if words.len() < front + each {

@@ -182,12 +182,8 @@ impl Maker {
     }
 }
 
-/// Whether a call is one on a tunnel that is there; one that 20 turns down leaves any tunnel as it is.
+/// Whether a call is one on a tunnel that is there.
 fn is_of_tunnel(call: &Call) -> bool {
-    let Some(call) = call.unguarded() else {
-        return true;
-    };
-
     !matches!(
         call,
         Call::New { .. }
@@ -201,6 +197,5 @@ fn is_of_tunnel(call: &Call) -> bool {
             | Call::Peek { .. }
             | Call::Append { .. }
             | Call::Walk { .. }
-            | Call::View { .. }
     )
 }

@@ -1,7 +1,5 @@
 //! Makes scripts, runs two programs on them and compares their answers.
 
-mod access_moves;
-mod access_scripts;
 mod ahead_moves;
 mod comparison;
 mod cut;
@@ -24,7 +22,6 @@ mod plots;
 mod profiles;
 mod programs;
 mod random;
-mod scene;
 mod settle_moves;
 mod settled;
 mod skip_moves;
@@ -32,7 +29,6 @@ mod tally;
 mod times;
 mod told;
 
-pub use access_scripts::{access_scripts, short_access_scripts};
 pub use comparison::Comparison;
 pub use datagrams::datagram_scripts;
 pub use exhaustive::Exhaustive;

@@ -108,7 +108,7 @@ impl LogMoves {
 }
 
 impl Maker {
-    /// Adds lines of the log as often as the profile says, with views among them; the first one after the tunnel was made is a store, so that what an
+    /// Adds lines of the log as often as the profile says; the first one after the tunnel was made is a store, so that what an
     /// earlier script left does not matter.
     pub(crate) fn log_now_and_then(&mut self) {
         if !self.log.random.percent(self.profile.log) {
@@ -126,11 +126,8 @@ impl Maker {
             lines = log_lines(random, &mut self.driver);
         }
         for line in lines {
-            let said = self.guarded_now_and_then(&line);
             self.log.lines += 1;
-            self.ask_driver(said);
-            self.turned_down_now_and_then(&line);
-            self.views_now_and_then();
+            self.ask_driver(line);
         }
     }
 }

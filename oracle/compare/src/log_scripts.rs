@@ -1,6 +1,6 @@
 //! The log scripts: every length, field, order and damage that document 02's note 3 tells apart.
 
-use oracle::{MAX_LINE, Report};
+use oracle::{Answer, Call, Driver, MAX_LINE, Report};
 
 use crate::datagrams::{COUNTERS, INDICES};
 use crate::log_moves::{
@@ -9,13 +9,16 @@ use crate::log_moves::{
 };
 use crate::maker::Script;
 use crate::random::Random;
-use crate::scene::{LENT, SMALL, Scene, counted, in_trailer, log_len, small_len};
 use crate::times::TIME_LIMIT;
 
 /// The most bytes of a store that is written or read.
 const MAX_STORE: u64 = 65_536;
 /// The most records that such a store holds, in one callout.
 const MAX_RECORDS: u64 = 2_047;
+/// The most counts and records that a line can lend.
+const LENT: (u64, u64) = (4_096, 2_048);
+/// The counts of a small log's callouts, oldest first.
+const SMALL: [u64; 3] = [2, 0, 1];
 /// The number of random logs.
 const RANDOM_LOGS: u64 = 500;
 /// The lines of a random log, about.
@@ -213,6 +216,146 @@ fn named(parts: Vec<(String, Vec<Vec<u8>>)>) -> Vec<(String, Script)> {
     parts
         .map(|(name, lines)| (format!("log: {name}"), Script { lines }))
         .collect()
+}
+
+/// A script under way, and the oracle that answers it.
+struct Scene {
+    driver: Driver,
+    lines: Vec<Vec<u8>>,
+}
+
+impl Scene {
+    /// A script without a line.
+    fn empty() -> Self {
+        Self {
+            driver: Driver::new(),
+            lines: Vec::new(),
+        }
+    }
+
+    /// A new tunnel and a new store.
+    fn new(len: u64) -> Self {
+        let mut scene = Self::empty();
+        scene.say(b"new 1 0 0");
+        scene.store(len);
+
+        scene
+    }
+
+    /// A new store with callouts of so many reports, oldest first, behind each other.
+    fn with_log(len: u64, counts: &[u64]) -> Self {
+        let mut scene = Self::new(len);
+        scene.append_all(counts);
+
+        scene
+    }
+
+    /// A small log that fills its store.
+    fn small() -> Self {
+        Self::with_log(small_len(), &SMALL)
+    }
+
+    /// Adds a line as it is.
+    fn say(&mut self, line: &[u8]) {
+        let _ = self.driver.answer(line);
+
+        self.lines.push(line.to_vec());
+    }
+
+    /// Adds a call and gives the answer, if it is good.
+    fn ask(&mut self, call: Call) -> Option<Answer> {
+        let line = call.to_string().into_bytes();
+        let answer = self.driver.answer(&line);
+
+        self.lines.push(line);
+        answer.ok()
+    }
+
+    /// A new store.
+    fn store(&mut self, len: u64) {
+        self.ask(Call::Store { len });
+    }
+
+    /// The used length from now on.
+    fn used(&mut self, len: u64) {
+        self.ask(Call::Used { len });
+    }
+
+    /// Puts bytes into the store.
+    fn poke(&mut self, at: u64, bytes: &[u8]) {
+        let bytes = bytes.to_vec();
+
+        self.ask(Call::Poke { at, bytes });
+    }
+
+    /// Asks for bytes of the store.
+    fn peek(&mut self, at: u64, len: u64) {
+        self.ask(Call::Peek { at, len });
+    }
+
+    /// Asks for the whole store.
+    fn peek_all(&mut self) {
+        let len = self.driver.log().store.len() as u64;
+
+        self.peek(0, len);
+    }
+
+    /// Appends a callout of these reports.
+    fn append(&mut self, reports: &[Report]) {
+        let reports = reports.to_vec();
+
+        self.ask(Call::Append { reports });
+    }
+
+    /// Appends callouts of so many reports.
+    fn append_all(&mut self, counts: &[u64]) {
+        let mut at = 0;
+
+        for count in counts {
+            let reports: Vec<Report> = (at..at + count).map(counted).collect();
+            self.append(&reports);
+            at += count;
+        }
+    }
+
+    /// Walks with lists of so many counts and records.
+    fn walk(&mut self, counts: u64, records: u64) {
+        self.ask(Call::Walk { counts, records });
+    }
+
+    /// Walks with the longest lists.
+    fn walk_all(&mut self) {
+        self.walk(LENT.0, LENT.1);
+    }
+
+    /// Changes a byte, and gives the old one.
+    fn change(&mut self, at: u64, change: u8) -> u8 {
+        let old = self.driver.log().store[at as usize];
+        self.poke(at, &[old ^ change]);
+
+        old
+    }
+}
+
+/// A report whose fields tell its place among the reports.
+fn counted(at: u64) -> Report {
+    Report {
+        time: 1_000 + at,
+        counter: 2_000 + at,
+        session: 3_000 + at,
+        index: 4_000 + at as u32,
+        verdict: VERDICTS[(at % 4) as usize],
+    }
+}
+
+/// The bytes of callouts of so many reports.
+fn log_len(counts: &[u64]) -> u64 {
+    counts.iter().map(|count| TRAILER + RECORD * count).sum()
+}
+
+/// The bytes of the small log.
+fn small_len() -> u64 {
+    log_len(&SMALL)
 }
 
 /// The bytes of a trailer.
@@ -598,6 +741,16 @@ fn damage(at: u64, changes: impl Iterator<Item = u8>) -> Vec<Vec<u8>> {
     scene.poke(at, &[old]);
     scene.walk(3, 3);
     scene.lines
+}
+
+/// Whether a place of the small log lies in one of its trailers.
+fn in_trailer(at: u64) -> bool {
+    let mut end = 0;
+
+    SMALL.iter().any(|count| {
+        end += TRAILER + RECORD * count;
+        at < end && at + TRAILER >= end
+    })
 }
 
 /// The small log with a byte of a trailer changed and one of a record: every `step`th pair of places.

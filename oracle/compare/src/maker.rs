@@ -2,7 +2,6 @@
 
 use oracle::{Answer, Call, Driver, View, ViewSession};
 
-use crate::access_moves::AccessMoves;
 use crate::ahead_moves::AheadMoves;
 use crate::datagram_moves::Datagrams;
 use crate::heard_moves::HeardMoves;
@@ -47,7 +46,6 @@ pub(crate) struct Maker {
     pub(crate) heard: HeardMoves,
     pub(crate) ahead: AheadMoves,
     pub(crate) settle: SettleMoves,
-    pub(crate) access: AccessMoves,
     /// The extra wakings, where a pair of scripts is made.
     pub(crate) insertion: Option<Insertion>,
 }
@@ -71,7 +69,6 @@ impl Maker {
             heard: HeardMoves::new(seed),
             ahead: AheadMoves::new(seed),
             settle: SettleMoves::new(seed),
-            access: AccessMoves::new(seed),
             insertion: None,
         }
     }
@@ -123,27 +120,24 @@ impl Maker {
         }
     }
 
-    /// Whether the script is as long as it should be, its datagrams, the log's lines, those that ask when a session was last heard or for the
-    /// next index, and guarded lines that are turned down not counted.
+    /// Whether the script is as long as it should be, its datagrams, the log's lines and those that ask when a session was last heard or for the
+    /// next index not counted.
     pub(crate) fn full(&self) -> bool {
-        let asked = self.heard.lines + self.ahead.lines;
-        let beside = self.datagrams.lines + self.log.lines + asked + self.access.lines;
+        let beside = self.datagrams.lines + self.log.lines + self.heard.lines + self.ahead.lines;
 
-        self.lines.len().saturating_sub(beside) >= self.length
+        self.lines.len() - beside >= self.length
     }
 
-    /// Adds a line, a waking now and then as a settling, any line now and then as a user says it who has the right to it, now and then a question for the next index before it, a guarded
-    /// line that is turned down, a datagram, lines of the log, skips, a last heard time or the next index behind it, and gives the oracle's answer to the line, if it is good.
+    /// Adds a line, a waking now and then as a settling, now and then a question for the next index before it, a datagram, lines of the log, skips, a last heard time or the next
+    /// index behind it, and gives the oracle's answer to the line, if it is good.
     pub(crate) fn ask(&mut self, line: impl Into<Vec<u8>>) -> Option<Answer> {
         let line = self.settling_now_and_then(line.into());
         let alone = self.insertion.is_none();
         if alone {
             self.ahead_before(&line);
         }
-        let said = self.guarded_now_and_then(&line);
-        let answer = self.ask_alone(said);
+        let answer = self.ask_alone(line.clone());
 
-        self.turned_down_now_and_then(&line);
         if alone {
             self.datagrams_now_and_then();
             self.log_now_and_then();

@@ -261,7 +261,7 @@ pub(crate) fn standing(call: &Call, [plain, woken]: [&[u8]; 2], greatest: u64) -
 
     if plain == woken {
         Standing::Equal
-    } else if call.unguarded() == Some(&Call::Next) && has_come(plain) && has_come(woken) {
+    } else if *call == Call::Next && has_come(plain) && has_come(woken) {
         Standing::BothCome
     } else {
         Standing::Different

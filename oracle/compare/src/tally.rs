@@ -9,7 +9,7 @@ use oracle::Call;
 use crate::told::Replay;
 
 /// Counts of call words, refusal numbers, events, verdicts, skips, last heard times, of the wakings of settlings, of the indices told ahead and then used by the Rust, of the
-/// types read and the headers written, of the log's callouts and records, of guarded lines let through and turned down by 20, and of views of the log.
+/// types read and the headers written, and of the log's callouts and records.
 #[derive(Default)]
 pub struct Tally {
     calls: u64,
@@ -31,8 +31,6 @@ pub struct Tally {
     tries: BTreeMap<u8, u64>,
     datagrams: BTreeMap<String, u64>,
     log: BTreeMap<String, u64>,
-    /// The guarded lines, and the views by who has them.
-    access: BTreeMap<&'static str, u64>,
 }
 
 impl Tally {
@@ -44,15 +42,10 @@ impl Tally {
         let answer = String::from_utf8_lossy(answer);
         if let Some(call) = &call {
             self.count_heard(call, &answer);
-            self.count_access(call, &answer);
         }
-        let made = match &call {
-            Some(call @ Call::As { .. }) if call.unguarded().is_some() => word_at(line, 2),
-            _ => word.clone(),
-        };
         let mut parts = answer.split(' ');
 
-        match (parts.next(), made.as_str()) {
+        match (parts.next(), word.as_str()) {
             (Some("no"), _) => {
                 let number = parts.next().and_then(|number| number.parse().ok());
                 *self.refusals.entry(number.unwrap_or(0)).or_default() += 1;
@@ -83,7 +76,7 @@ impl Tally {
                 let kind = parts.next().unwrap_or_default().to_string();
                 *self.datagrams.entry(kind).or_default() += 1;
             }
-            (Some("ok"), "append" | "walk") => self.count_log(&made, parts),
+            (Some("ok"), "append" | "walk") => self.count_log(&word, parts),
             _ => {}
         }
         *self.words.entry(word).or_default() += 1;
@@ -109,27 +102,6 @@ impl Tally {
                 *self.heard.entry(kind).or_default() += 1;
             }
             _ => {}
-        }
-    }
-
-    /// Counts a guarded line by whether it was let through, and the answer to a view by whether the user is a trainer.
-    fn count_access(&mut self, call: &Call, answer: &str) {
-        let mut count = |kind: &'static str| *self.access.entry(kind).or_default() += 1;
-        let is_guarded = matches!(call, Call::As { .. });
-        let made = call.unguarded();
-
-        if is_guarded && answer == "no 20" {
-            count("turned down by 20");
-        } else if is_guarded && made.is_some() {
-            count("let through");
-        }
-        if let (Some(Call::View { .. }), true) = (made, answer.starts_with("ok")) {
-            let is_trainer = matches!(call, Call::As { users, .. } if users[..] == [2]);
-            count(if is_trainer {
-                "views of a trainer"
-            } else {
-                "views"
-            });
         }
     }
 
@@ -178,20 +150,15 @@ fn skip_kind(word: &str) -> &'static str {
 
 /// The name of a line's call, or a word for a line that cannot be read.
 fn word_of(line: &[u8], call: Option<&Call>) -> String {
-    match call {
-        Some(_) => word_at(line, 0),
-        None => "unreadable".to_string(),
+    if call.is_none() {
+        return "unreadable".to_string();
     }
-}
-
-/// A word of a line by its place.
-fn word_at(line: &[u8], at: usize) -> String {
     let text = String::from_utf8_lossy(line);
-    let mut words = text
-        .split([' ', '\t', '\r'])
-        .filter(|word| !word.is_empty());
 
-    words.nth(at).unwrap_or_default().to_string()
+    text.split([' ', '\t', '\r'])
+        .find(|word| !word.is_empty())
+        .unwrap_or_default()
+        .to_string()
 }
 
 impl fmt::Display for Tally {
@@ -209,8 +176,7 @@ impl fmt::Display for Tally {
         writeln!(f, "told:      {told} as the Rust then used them: {by_call}")?;
         writeln!(f, "tries:     {}", list(&self.tries))?;
         writeln!(f, "datagrams: {}", list(&self.datagrams))?;
-        writeln!(f, "log:       {}", list(&self.log))?;
-        write!(f, "guarded:   {}", list(&self.access))
+        write!(f, "log:       {}", list(&self.log))
     }
 }
 
@@ -271,34 +237,5 @@ mod tests {
         }
 
         assert_eq!(list(&tally.woke), "0 2, 1 1");
-    }
-
-    #[test]
-    fn guarded_lines_are_counted_by_whether_they_are_let_through() {
-        let mut tally = Tally::default();
-
-        for (line, answer) in [
-            ("new 256 0 0", "ok"),
-            ("as 0 settle 0 0", "ok woke 0"),
-            ("as 1 settle 0 0", "no 20"),
-            ("as 0 settle 0", "no 2"),
-            ("as 0 as 0 event", "no 20"),
-            (" as  0 send 0 0", "no 2"),
-            ("view 0", "ok bytes -"),
-            ("as 1 view 0", "ok bytes -"),
-            ("as 2 view 0", "ok bytes -"),
-            ("as 2 view 0", "no 17"),
-            ("as 2 walk 2 1", "ok log 2 0 1 5 0 0 0 7"),
-        ] {
-            tally.count(line.as_bytes(), answer.as_bytes());
-        }
-
-        assert_eq!(
-            list(&tally.access),
-            "let through 6, turned down by 20 2, views 2, views of a trainer 1"
-        );
-        assert_eq!(list(&tally.woke), "0 1");
-        assert_eq!(list(&tally.log), "callouts 2, records 1, walked 1");
-        assert_eq!(list(&tally.words), "as 8, new 1, unreadable 1, view 1");
     }
 }

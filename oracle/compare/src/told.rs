@@ -33,7 +33,7 @@ impl Replay {
     }
 }
 
-/// Makes the calls of a script on the Rust, those that only ask or are turned down by 20 left out, and holds the answers of a program to each index that the Rust allocates
+/// Makes the calls of a script on the Rust, those that only ask left out, and holds the answers of a program to each index that the Rust allocates
 /// directly after an `ahead`.
 pub(crate) fn replay(lines: &[Vec<u8>], answers: &[Vec<u8>]) -> Replay {
     let mut driver = Driver::new();
@@ -43,8 +43,7 @@ pub(crate) fn replay(lines: &[Vec<u8>], answers: &[Vec<u8>]) -> Replay {
     for (at, line) in lines.iter().enumerate() {
         let call = oracle::read(line);
         let after_ahead = std::mem::replace(&mut asked, call == Some(Call::Ahead));
-        let made = call.as_ref().and_then(Call::unguarded).cloned();
-        let Some(call) = made.filter(may_change_the_rust) else {
+        let Some(call) = call.filter(may_change_the_rust) else {
             continue;
         };
         if let Call::Settle { jitter, time } = call {

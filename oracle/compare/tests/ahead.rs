@@ -32,9 +32,8 @@ impl Met {
                 told = answer.ok();
                 continue;
             }
-            let made = call.as_ref().and_then(Call::unguarded);
-            if let (Some(call), Some(last), Some(told)) = (made, last, told.take()) {
-                self.note_call(&mut driver, call, last, answer, told);
+            if let (Some(call), Some(last), Some(told)) = (call, last, told.take()) {
+                self.note_call(&mut driver, &call, last, answer, told);
             }
         }
     }

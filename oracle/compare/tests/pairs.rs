@@ -49,8 +49,8 @@ fn pairs_reach_every_call_and_refusal() {
         }
     }
 
-    assert_eq!(words.len(), 16, "{words:?}");
-    assert_eq!(refusals, (1..=13).chain([20]).collect());
+    assert_eq!(words.len(), 15, "{words:?}");
+    assert_eq!(refusals, (1..=13).collect());
 }
 
 #[test]

@@ -61,10 +61,10 @@ fn scripts_reach_everything() {
         }
     }
 
-    assert_eq!(met.calls.len(), 28, "{:?}", met.calls);
+    assert_eq!(met.calls.len(), 26, "{:?}", met.calls);
     assert_eq!(
         met.refusals,
-        (1..=20).filter(|number| *number != 14).collect()
+        (1..=19).filter(|number| *number != 14).collect()
     );
     assert_eq!(met.verdicts, BTreeSet::from([0, 7, 9, 10]));
     let events = ["ok est", "ok exp", "ok init", "ok key", "ok none"];

@@ -8,11 +8,6 @@ use oracle::{Answer, Call, Driver};
 /// The seeds whose scripts must meet everything.
 const SEEDS: std::ops::Range<u64> = 0..300;
 
-/// The call that a line makes: the guarded one where its user has the right to it.
-fn made(line: &[u8]) -> Option<Call> {
-    oracle::read(line)?.unguarded().cloned()
-}
-
 /// What the settlings of scripts have met.
 #[derive(Default)]
 struct Met {
@@ -35,7 +30,7 @@ impl Met {
         let mut before = None;
 
         for line in &script.lines {
-            let call = made(line);
+            let call = oracle::read(line);
             let view = driver.view();
             let answer = driver.answer(line);
             if let (Some((wakings, time)), Some(call)) = (before, &call) {
@@ -210,7 +205,7 @@ fn a_settling_leaves_what_its_single_wakings_leave() {
 
         for line in &script.lines {
             let answer = settled.answer(line);
-            match (made(line), &answer) {
+            match (oracle::read(line), &answer) {
                 (Some(Call::Settle { jitter, time }), Ok(Answer::Woke(wakings @ 1..))) => {
                     for _ in 0..*wakings {
                         let waking = woken.call(Call::Wake { jitter, time });
@@ -231,7 +226,7 @@ fn a_waking_is_due_where_the_deadline_without_events_has_come() {
 
         for line in &script.lines {
             let answer = settled.answer(line);
-            match (made(line), answer) {
+            match (oracle::read(line), answer) {
                 (Some(Call::Settle { jitter, time }), Ok(Answer::Woke(wakings))) => {
                     let mut count = 0;
                     while next_without_events(&mut drained).is_some_and(|at| at <= time) {
@@ -272,7 +267,7 @@ fn a_settling_that_is_not_due_raises_the_greatest_time_only() {
         for line in &script.lines {
             let before = settled.view().map(|view| view.greatest);
             let answer = settled.answer(line);
-            let call = made(line);
+            let call = oracle::read(line);
             let is_settle = matches!(call, Some(Call::Settle { .. }));
             if is_settle && answer == Ok(Answer::Woke(0)) {
                 let time = call.and_then(|call| call.time());

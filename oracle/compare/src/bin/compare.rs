@@ -1,12 +1,12 @@
 //! Runs two programs on the same scripts, compares their answers line by line and holds each index that the first told ahead to the Rust:
-//! compare A B [--seeds FROM..TO] [--manner D] [--exhaustive N] [--datagrams] [--gaps] [--log] [--indices] [--access] [--ahead] [--settle] [--lines M] [--stop] [--no-cut]
+//! compare A B [--seeds FROM..TO] [--manner D] [--exhaustive N] [--datagrams] [--gaps] [--log] [--indices] [--ahead] [--settle] [--lines M] [--stop] [--no-cut]
 
 use std::env;
 use std::process::ExitCode;
 
 use compare::{
-    Comparison, Exhaustive, Script, access_scripts, datagram_scripts, gap_scripts, index_scripts,
-    log_scripts, make_script, make_settle_script, profile_name,
+    Comparison, Exhaustive, Script, datagram_scripts, gap_scripts, index_scripts, log_scripts,
+    make_script, make_settle_script, profile_name,
 };
 
 /// What to compare.
@@ -19,7 +19,6 @@ struct Options {
     gaps: bool,
     log: bool,
     indices: bool,
-    access: bool,
     ahead: bool,
     settle: bool,
     lines: usize,
@@ -30,7 +29,7 @@ struct Options {
 fn main() -> ExitCode {
     let Some(options) = options() else {
         eprintln!(
-            "usage: compare A B [--seeds FROM..TO] [--manner D] [--exhaustive N] [--datagrams] [--gaps] [--log] [--indices] [--access] [--ahead] [--settle] [--lines M] [--stop] [--no-cut]"
+            "usage: compare A B [--seeds FROM..TO] [--manner D] [--exhaustive N] [--datagrams] [--gaps] [--log] [--indices] [--ahead] [--settle] [--lines M] [--stop] [--no-cut]"
         );
         return ExitCode::from(2);
     };
@@ -46,12 +45,11 @@ fn main() -> ExitCode {
     let gaps = options.gaps.then(gap_scripts).unwrap_or_default();
     let log = options.log.then(log_scripts).unwrap_or_default();
     let indices = options.indices.then(index_scripts).unwrap_or_default();
-    let access = options.access.then(access_scripts).unwrap_or_default();
     let [a, b] = &options.programs;
     let mut comparison = Comparison::new([a, b], options.stop, options.cut);
 
     let fixed = datagrams.into_iter().chain(gaps).chain(log).chain(indices);
-    comparison.go_through(seeds.chain(words).chain(fixed).chain(access));
+    comparison.go_through(seeds.chain(words).chain(fixed));
     comparison.report();
 
     ExitCode::from(u8::from(comparison.differences() > 0))
@@ -84,7 +82,6 @@ fn options() -> Option<Options> {
         gaps: false,
         log: false,
         indices: false,
-        access: false,
         ahead: false,
         settle: false,
         lines: 150,
@@ -119,10 +116,6 @@ fn options() -> Option<Options> {
             }
             "--indices" => {
                 options.indices = true;
-                chosen = true;
-            }
-            "--access" => {
-                options.access = true;
                 chosen = true;
             }
             "--ahead" => options.ahead = true,

@@ -1,13 +1,13 @@
-//! Writes the script of a seed, or all datagram, gap, log, index or access scripts one after another, or few of the last three kinds:
-//! gen [--ahead | --settle] SEED [LINES] | gen --datagrams | gen --gaps | gen --log | gen --short-log | gen --indices | gen --short-indices | gen --access | gen --short-access
+//! Writes the script of a seed, or all datagram, gap, log or index scripts one after another, or few of the last two kinds:
+//! gen [--ahead | --settle] SEED [LINES] | gen --datagrams | gen --gaps | gen --log | gen --short-log | gen --indices | gen --short-indices
 
 use std::env;
 use std::io::{self, BufWriter, Write};
 use std::process;
 
 use compare::{
-    Script, access_scripts, datagram_scripts, gap_scripts, index_scripts, log_scripts, make_script,
-    make_settle_script, short_access_scripts, short_index_scripts, short_log_scripts,
+    Script, datagram_scripts, gap_scripts, index_scripts, log_scripts, make_script,
+    make_settle_script, short_index_scripts, short_log_scripts,
 };
 
 /// The length of a script where none is given.
@@ -17,7 +17,7 @@ fn main() -> io::Result<()> {
     let arguments: Vec<String> = env::args().skip(1).collect();
     let Some(lines) = lines(&arguments) else {
         eprintln!(
-            "usage: gen [--ahead | --settle] SEED [LINES] | gen --datagrams | gen --gaps | gen --log | gen --short-log | gen --indices | gen --short-indices | gen --access | gen --short-access"
+            "usage: gen [--ahead | --settle] SEED [LINES] | gen --datagrams | gen --gaps | gen --log | gen --short-log | gen --indices | gen --short-indices"
         );
         process::exit(2);
     };
@@ -40,8 +40,6 @@ fn lines(arguments: &[String]) -> Option<Vec<Vec<u8>>> {
         [name] if name == "--short-log" => Some(all_lines(short_log_scripts())),
         [name] if name == "--indices" => Some(all_lines(index_scripts())),
         [name] if name == "--short-indices" => Some(all_lines(short_index_scripts())),
-        [name] if name == "--access" => Some(all_lines(access_scripts())),
-        [name] if name == "--short-access" => Some(all_lines(short_access_scripts())),
         [name, rest @ ..] if name == "--ahead" => {
             Some(of_seed(make_script, rest)?.with_ahead().lines)
         }

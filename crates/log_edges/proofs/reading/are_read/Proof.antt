@@ -3,11 +3,11 @@ use Rattle.log_edges.proofs.reading.are_read.Statement.{statement}
 use Rattle.log_edges.proofs.reading.are_read.Tie as tie
 
 abbrev invariant-loop : tie.invariant-loop
-invariant-loop hides answer counts times counters session-ids local-indices verdicts i₀ i =
+invariant-loop answer counts times counters session-ids local-indices verdicts i₀ i =
     i ≤ 8
 
 abbrev decreases-loop : tie.decreases-loop
-decreases-loop hides answer counts times counters session-ids local-indices verdicts i₀ i =
+decreases-loop answer counts times counters session-ids local-indices verdicts i₀ i =
     8 - i
 
 loop-holds : tie.Need-loop-init invariant-loop decreases-loop
@@ -49,14 +49,11 @@ mul-if3 c = search rules
 element-copy-out-if3 : tie.Need-element-copy-out-if3 invariant-loop decreases-loop
 element-copy-out-if3 c = search rules
 
-mul-shown : tie.Need-overflow-mul-shown invariant-loop decreases-loop
-mul-shown c = search rules
+mul-if3-2 : tie.Need-overflow-mul-if3-2 invariant-loop decreases-loop
+mul-if3-2 c = search rules
 
-array-read-shown : tie.Need-array-read-shown invariant-loop decreases-loop
-array-read-shown c = search rules
-
-shown-requires : tie.Need-shown-requires invariant-loop decreases-loop
-shown-requires c κs = search rules
+array-read-if3 : tie.Need-array-read-if3 invariant-loop decreases-loop
+array-read-if3 c = search rules
 
 returns-3 : tie.Need-returns-3 invariant-loop decreases-loop
 returns-3 c = search rules
@@ -67,14 +64,11 @@ mul-if4 c = search rules
 element-copy-out-if4 : tie.Need-element-copy-out-if4 invariant-loop decreases-loop
 element-copy-out-if4 c = search rules
 
-mul-shown-2 : tie.Need-overflow-mul-shown-2 invariant-loop decreases-loop
-mul-shown-2 c = search rules
+mul-if4-2 : tie.Need-overflow-mul-if4-2 invariant-loop decreases-loop
+mul-if4-2 c = search rules
 
-array-read-shown-2 : tie.Need-array-read-shown-2 invariant-loop decreases-loop
-array-read-shown-2 c = search rules
-
-shown-requires-2 : tie.Need-shown-requires-2 invariant-loop decreases-loop
-shown-requires-2 c κs = search rules
+array-read-if4 : tie.Need-array-read-if4 invariant-loop decreases-loop
+array-read-if4 c = search rules
 
 returns-4 : tie.Need-returns-4 invariant-loop decreases-loop
 returns-4 c = search rules
@@ -85,14 +79,11 @@ mul-if5 c = search rules
 element-copy-out-if5 : tie.Need-element-copy-out-if5 invariant-loop decreases-loop
 element-copy-out-if5 c = search rules
 
-mul-shown-index : tie.Need-overflow-mul-shown-index invariant-loop decreases-loop
-mul-shown-index c = search rules
+mul-if5-2 : tie.Need-overflow-mul-if5-2 invariant-loop decreases-loop
+mul-if5-2 c = search rules
 
-array-read-shown-index : tie.Need-array-read-shown-index invariant-loop decreases-loop
-array-read-shown-index c = search rules
-
-shown-index-requires : tie.Need-shown-index-requires invariant-loop decreases-loop
-shown-index-requires c κs = search rules
+array-read-if5 : tie.Need-array-read-if5 invariant-loop decreases-loop
+array-read-if5 c = search rules
 
 returns-5 : tie.Need-returns-5 invariant-loop decreases-loop
 returns-5 c = search rules
@@ -137,21 +128,18 @@ are-read-spec =
     returns-2
     mul-if3
     element-copy-out-if3
-    mul-shown
-    array-read-shown
-    shown-requires
+    mul-if3-2
+    array-read-if3
     returns-3
     mul-if4
     element-copy-out-if4
-    mul-shown-2
-    array-read-shown-2
-    shown-requires-2
+    mul-if4-2
+    array-read-if4
     returns-4
     mul-if5
     element-copy-out-if5
-    mul-shown-index
-    array-read-shown-index
-    shown-index-requires
+    mul-if5-2
+    array-read-if5
     returns-5
     element-copy-out-if6
     array-read-if6

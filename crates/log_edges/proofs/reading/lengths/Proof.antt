@@ -3,11 +3,11 @@ use Rattle.log_edges.proofs.reading.lengths.Statement.{statement}
 use Rattle.log_edges.proofs.reading.lengths.Tie as tie
 
 abbrev invariant-loop : tie.invariant-loop
-invariant-loop hides list needed others tally₀ len₀ tally len =
+invariant-loop list needed others tally₀ len₀ tally len =
     len ≤ 9
 
 abbrev decreases-loop : tie.decreases-loop
-decreases-loop hides list needed others tally₀ len₀ tally len =
+decreases-loop list needed others tally₀ len₀ tally len =
     9 - len
 
 no-cases-requires : tie.Need-no-cases-requires invariant-loop decreases-loop

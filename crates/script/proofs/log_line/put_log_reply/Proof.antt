@@ -36,29 +36,14 @@ same-length-2 c = search rules
 returns-2 : tie.Need-returns-2
 returns-2 c = search rules
 
-enum-known-call-3 : tie.Need-enum-known-call-3
-enum-known-call-3 c = search rules
-
-slice-aggregate-put-view : tie.Need-slice-aggregate-put-view
-slice-aggregate-put-view c = search (part_length, rules)
-
-put-view-requires : tie.Need-put-view-requires
-put-view-requires c κs = search rules
+put-log-answer-requires : tie.Need-put-log-answer-requires
+put-log-answer-requires c κs = search rules
 
 same-length-3 : tie.Need-same-length-3
 same-length-3 c = search rules
 
 returns-3 : tie.Need-returns-3
 returns-3 c = search rules
-
-put-log-answer-requires : tie.Need-put-log-answer-requires
-put-log-answer-requires c κs = search rules
-
-same-length-4 : tie.Need-same-length-4
-same-length-4 c = search rules
-
-returns-4 : tie.Need-returns-4
-returns-4 c = search rules
 
 pub put-log-reply-spec : {M : Type 1} → statement M
 put-log-reply-spec =
@@ -75,11 +60,6 @@ put-log-reply-spec =
     put-walk-requires
     same-length-2
     returns-2
-    enum-known-call-3
-    slice-aggregate-put-view
-    put-view-requires
-    same-length-3
-    returns-3
     put-log-answer-requires
-    same-length-4
-    returns-4)
+    same-length-3
+    returns-3)

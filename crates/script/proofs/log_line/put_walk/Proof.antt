@@ -12,41 +12,41 @@ least-requires-2 c κs = search rules
 array-borrow-prefix-counts : tie.Need-array-borrow-prefix-counts
 array-borrow-prefix-counts c = search rules
 
-slice-aggregate-read-by : tie.Need-slice-aggregate-read-by
-slice-aggregate-read-by c = search (part_length, rules)
+slice-aggregate-read : tie.Need-slice-aggregate-read
+slice-aggregate-read c = search (part_length, rules)
 
 array-borrow-prefix-times : tie.Need-array-borrow-prefix-times
 array-borrow-prefix-times c = search rules
 
-slice-aggregate-read-by-2 : tie.Need-slice-aggregate-read-by-2
-slice-aggregate-read-by-2 c = search (part_length, rules)
+slice-aggregate-read-2 : tie.Need-slice-aggregate-read-2
+slice-aggregate-read-2 c = search (part_length, rules)
 
 array-borrow-prefix-counters : tie.Need-array-borrow-prefix-counters
 array-borrow-prefix-counters c = search rules
 
-slice-aggregate-read-by-3 : tie.Need-slice-aggregate-read-by-3
-slice-aggregate-read-by-3 c = search (part_length, rules)
+slice-aggregate-read-3 : tie.Need-slice-aggregate-read-3
+slice-aggregate-read-3 c = search (part_length, rules)
 
 array-borrow-prefix-session-ids : tie.Need-array-borrow-prefix-session-ids
 array-borrow-prefix-session-ids c = search rules
 
-slice-aggregate-read-by-4 : tie.Need-slice-aggregate-read-by-4
-slice-aggregate-read-by-4 c = search (part_length, rules)
+slice-aggregate-read-4 : tie.Need-slice-aggregate-read-4
+slice-aggregate-read-4 c = search (part_length, rules)
 
 array-borrow-prefix-local-indices : tie.Need-array-borrow-prefix-local-indices
 array-borrow-prefix-local-indices c = search rules
 
-slice-aggregate-read-by-5 : tie.Need-slice-aggregate-read-by-5
-slice-aggregate-read-by-5 c = search (part_length, rules)
+slice-aggregate-read-5 : tie.Need-slice-aggregate-read-5
+slice-aggregate-read-5 c = search (part_length, rules)
 
 array-borrow-prefix-verdicts : tie.Need-array-borrow-prefix-verdicts
 array-borrow-prefix-verdicts c = search rules
 
-slice-aggregate-read-by-6 : tie.Need-slice-aggregate-read-by-6
-slice-aggregate-read-by-6 c = search (part_length, rules)
+slice-aggregate-read-6 : tie.Need-slice-aggregate-read-6
+slice-aggregate-read-6 c = search (part_length, rules)
 
-read-by-requires : tie.Need-read-by-requires
-read-by-requires c κs = search rules
+read-requires : tie.Need-read-requires
+read-requires c κs = search rules
 
 put-walked-requires : tie.Need-put-walked-requires
 put-walked-requires c κs = search rules
@@ -64,18 +64,18 @@ put-walk-spec =
     least-requires
     least-requires-2
     array-borrow-prefix-counts
-    slice-aggregate-read-by
+    slice-aggregate-read
     array-borrow-prefix-times
-    slice-aggregate-read-by-2
+    slice-aggregate-read-2
     array-borrow-prefix-counters
-    slice-aggregate-read-by-3
+    slice-aggregate-read-3
     array-borrow-prefix-session-ids
-    slice-aggregate-read-by-4
+    slice-aggregate-read-4
     array-borrow-prefix-local-indices
-    slice-aggregate-read-by-5
+    slice-aggregate-read-5
     array-borrow-prefix-verdicts
-    slice-aggregate-read-by-6
-    read-by-requires
+    slice-aggregate-read-6
+    read-requires
     put-walked-requires
     same_length
     returns)

@@ -1,0 +1,11 @@
+use borrow.Author.Rules.{rules}
+use lib.ListN.{length}
+use Prim.Native.Nat.{◌-◌}
+use Rattle.base.proofs.Zeros.{zero_ends, Zeroed, zero_begins, zero_more}
+use Rattle.callout_log.proofs.store.zero_u32.Given as goal
+
+abbrev pub invariant-loop-i : goal.invariant-loop-i
+invariant-loop-i l = Zeroed l.initial.numbers l.numbers (length l.initial.numbers) l.i
+
+abbrev pub decreases-loop-i : goal.decreases-loop-i
+decreases-loop-i l = length l.initial.numbers - l.i

@@ -1,0 +1,14 @@
+use borrow.Author.Rules.{rules}
+use Rattle.callout_log.proofs.Shown.{hidden_no_store, hidden_store}
+use Rattle.base.proofs.Parts.{part_length}
+use Rattle.callout_log.proofs.Appending.{store_within}
+use Rattle.callout_log.proofs.view.read_hidden.Goals as goal
+
+pub returns-then-not-is_store : goal.returns-then-not-is_store
+returns-then-not-is_store c = search (hidden_no_store, rules)
+
+pub slice_bounds-read_hidden_bytes-end : goal.slice_bounds-read_hidden_bytes-end
+slice_bounds-read_hidden_bytes-end c = search (part_length, store_within, rules)
+
+pub returns : goal.returns
+returns c = search (hidden_store, rules)

@@ -1,0 +1,10 @@
+use Rattle.std.proofs.Common.{◌-◌, rules}
+use Rattle.sessions.specs.Session.{empty_session, new_session}
+use Rattle.sessions.proofs.Loops.{SlotsYet, slots_begin, slots_more, slots_end, slot_bad}
+use Rattle.sessions.proofs.damage.sessions_hold.Given as goal
+
+abbrev pub invariant-loop-slot : goal.invariant-loop-slot
+invariant-loop-slot l = SlotsYet l.sessions l.greatest l.slot
+
+abbrev pub decreases-loop-slot : goal.decreases-loop-slot
+decreases-loop-slot l = 8 - l.slot

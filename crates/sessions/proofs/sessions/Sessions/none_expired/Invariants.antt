@@ -1,0 +1,10 @@
+use Rattle.std.proofs.Common.{◌-◌, rules}
+use Rattle.sessions.specs.Sessions.{expired_slot}
+use Rattle.base.proofs.First.{NoneYet, none_begins, none_more, one_found, none_found}
+use Rattle.sessions.proofs.sessions.Sessions.none_expired.Given as goal
+
+abbrev pub invariant-loop-slot : goal.invariant-loop-slot
+invariant-loop-slot l = NoneYet (λ k. expired_slot l.self k l.now) 8 l.slot
+
+abbrev pub decreases-loop-slot : goal.decreases-loop-slot
+decreases-loop-slot l = 8 - l.slot

@@ -1,0 +1,12 @@
+use Rattle.std.proofs.Common.{◌-◌, length, rules}
+use Rattle.base.proofs.Zeros.{zero_ends, Zeroed, zero_begins, zero_more}
+use Rattle.sessions.proofs.store.zero.Goals as goal
+
+pub loop-i-init : goal.loop-i-init
+loop-i-init c = search (zero_begins, rules)
+
+pub loop-i-preserved : goal.loop-i-preserved
+loop-i-preserved c = search (zero_more, rules)
+
+pub returns : goal.returns
+returns c = search (zero_ends, rules)

@@ -1,0 +1,10 @@
+use borrow.Author.Rules.{rules}
+use lib.ListN.{length-set}
+use Rattle.text.proofs.Digits.{Spelling, spelling_begins, spelling_more, spelling_ends, spelling_full}
+use Rattle.text.proofs.text.spell.Given as goal
+
+abbrev pub invariant-loop-i : goal.invariant-loop-i
+invariant-loop-i l = Spelling l.n l.digits l.i l.rest
+
+abbrev pub decreases-loop-i : goal.decreases-loop-i
+decreases-loop-i l = l.i
