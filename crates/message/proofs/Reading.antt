@@ -8,7 +8,8 @@ use denote.Ref.{Bor}
 use lib.ListN.{length, take, drop, length-drop}
 use lib.Seq.{take_all, take-nil, drop-length}
 use borrow.Author.Tests.{lt-ltb, le-ltb, le-leb, ne_eqb, leb-true, eqb-true}
-use borrow.Rule.Slice.PartAt.{sl_part}
+use borrow.Rule.Slice.PartAt.{sl_partˢ}
+use borrow.Rule.Slice.Shared.{by_byte}
 use lib.Dec.{ltb, leb, eqb}
 use Rattle.base.specs.Choice.{choose}
 use Rattle.base.proofs.Choice.{of_choice, known_choice}
@@ -82,9 +83,9 @@ unfolding read_datagram read_data choose
 is_data bytes l t = rw (le-ltb (length bytes) 4 (omega arith), t, le-leb 32 (length bytes) l)
 
 -- the part at the end of what is no data message, and the part of a data message
-module _ (bytes : Bor (List ℕ)) (name : ℕ) where
+module _ (bytes : Bor (List ℕ)) where
   at_end : (32 ≤ length bytes.now → field 0 4 bytes.now ≡ 4 → ⊥)
-      → EncryptedPart bytes (sl_part bytes (length bytes.now + bytes.ref_ptr.1) (length bytes.now) (length bytes.now) name)
+      → EncryptedPart bytes (sl_partˢ bytes (by_byte (length bytes.now) bytes.ref_ptr.1) (length bytes.now) (length bytes.now))
   unfolding encrypted_part encrypted_from
   at_end h =
       record {
@@ -94,15 +95,15 @@ module _ (bytes : Bor (List ℕ)) (name : ℕ) where
         offset = ap (λ (n : ℕ). n + bytes.ref_ptr.1) (sym (other 16 (length bytes.now) bytes.now h));
       }
 
-  pub end_short : length bytes.now < 32 → EncryptedPart bytes (sl_part bytes (length bytes.now + bytes.ptr.1) (length bytes.now) (length bytes.now) name)
+  pub end_short : length bytes.now < 32 → EncryptedPart bytes (sl_partˢ bytes (by_byte (length bytes.now) bytes.ref_ptr.1) (length bytes.now) (length bytes.now))
   end_short h = at_end (λ l t. omega arith)
 
   module _ (type : ℕ) (e : type ≡ from_le_bytes (take 4 (drop 0 bytes.now))) where
-    pub end_type : (type ≡ 4 → ⊥) → EncryptedPart bytes (sl_part bytes (length bytes.now + bytes.ptr.1) (length bytes.now) (length bytes.now) name)
+    pub end_type : (type ≡ 4 → ⊥) → EncryptedPart bytes (sl_partˢ bytes (by_byte (length bytes.now) bytes.ref_ptr.1) (length bytes.now) (length bytes.now))
     unfolding field
     end_type h = at_end (λ l t. h (e ∙ t))
 
-    pub part_data : 32 ≤ length bytes.now → type ≡ 4 → EncryptedPart bytes (sl_part bytes (16 + bytes.ptr.1) 16 (length bytes.now) name)
+    pub part_data : 32 ≤ length bytes.now → type ≡ 4 → EncryptedPart bytes (sl_partˢ bytes (by_byte 16 bytes.ref_ptr.1) 16 (length bytes.now))
     unfolding encrypted_part encrypted_from field case_data
     part_data l t =
         let said : read_datagram bytes.now ≡ TransportData (field 4 4 bytes.now) (field 8 8 bytes.now) = is_data bytes.now l (sym e ∙ t) in

@@ -15,14 +15,14 @@ returns-in_default c = search (none_receives, not-false, rules)
 
 pub finish_all-progress-requires : goal.finish_all-progress-requires
 finish_all-progress-requires c =
-    fits_long _ _ _ _ _ c.fits2.ensures (not-false _ c.if-not-fits.false)
+    fits_long _ _ _ _ _ c.fits.ensures c.if-not-fits.false
 
 pub returns : goal.returns
 returns c =
     let a = c.args in
-    let stored : length a.store.now ≡ 1024 = search (c.if1.false, rules) in
+    let stored : length a.store.now ≡ 1024 = search (c.if-store-ne1024.false, rules) in
     search (
       one_receives a.self a.store.now a.index a.id a.now a.counters.now a.kinds.now a.verdicts.now a.skips.now stored _
-          c.fits2.ensures (not-false _ c.if-not-fits.false) _ c.receiving_session.ensures,
+          c.fits.ensures c.if-not-fits.false _ c.receiving_session.ensures,
       rules,
     )
