@@ -18,13 +18,14 @@ HERE = os.path.dirname(os.path.abspath(__file__))
 ROOT = sys.argv[1] if len(sys.argv) > 1 else os.path.dirname(HERE)
 NAMES = dict(line.split() for line in open(os.path.join(HERE, "respell.txt"), encoding="utf-8"))
 WORD = re.compile(r"[A-Za-z_◌][\w'◌-]*")
+PLAIN = re.compile(r"[a-z0-9_]+$")
 COMMENT = {".antt": re.compile(r"(?:^|\s)--(?:\s|$)"), ".rt": re.compile(r"//")}
 STRING = re.compile(r'b?"(?:[^"\\]|\\.)*"')
 
 
 def spelled(text):
-    """The text with its names respelled."""
-    return WORD.sub(lambda word: NAMES.get(word.group(0), word.group(0)), text)
+    """The text with its names respelled; a plain name before a dot is that of a function of src/."""
+    return WORD.sub(lambda word: word.group(0) if PLAIN.match(word.group(0)) and text[word.end() : word.end() + 1] == "." else NAMES.get(word.group(0), word.group(0)), text)
 
 
 def commented(text):
@@ -32,13 +33,18 @@ def commented(text):
     return WORD.sub(lambda word: NAMES.get(word.group(0), word.group(0)) if re.search("[a-z][A-Z]", word.group(0)) else word.group(0), text)
 
 
+def coded(text):
+    """Code of src/ with its names respelled: a plain one is a function's."""
+    return WORD.sub(lambda word: word.group(0) if PLAIN.match(word.group(0)) else NAMES.get(word.group(0), word.group(0)), text)
+
+
 def with_strings(text):
     """Code with its names respelled, but for those in strings."""
     parts, last = [], 0
     for found in STRING.finditer(text):
-        parts += [spelled(text[last : found.start()]), found.group(0)]
+        parts += [coded(text[last : found.start()]), found.group(0)]
         last = found.end()
-    return "".join(parts) + spelled(text[last:])
+    return "".join(parts) + coded(text[last:])
 
 
 def line_of(line, ending):
@@ -56,7 +62,7 @@ def crate_named(text):
 def edited(text):
     """A must-fail edit or a list of faults, whose lines are code of both kinds."""
     lines = crate_named(text).replace("crates/log/", "crates/callout_log/").replace("Rattle·", "Rattle.").split("\n")
-    return "\n".join(line if line.startswith("file:") else with_strings(line) for line in lines)
+    return "\n".join(line if line.startswith("file:") else coded(line) for line in lines)
 
 
 def paged(text):

@@ -93,7 +93,7 @@ impl Tunnel {
     }
 
     // A call that the checks let through.
-    fn let_through_lem(mut self, now: u64, out: Out) -> Answered
+    fn let_through(mut self, now: u64, out: Out) -> Answered
         ensures { result ≡ let_through self now out }
     {
         let control = out.control;
@@ -132,7 +132,7 @@ impl Tunnel {
         if number != 0 {
             return self.refused(number);
         }
-        self.let_through_lem(now, self.control.initiate_handshake(now))
+        self.let_through(now, self.control.initiate_handshake(now))
     }
 
     // Starts a new handshake, replacing one in progress: answers its local index, or nothing where the tunnel is expired.
@@ -144,7 +144,7 @@ impl Tunnel {
         if number != 0 {
             return self.refused(number);
         }
-        self.let_through_lem(now, self.control.restart_handshake(now))
+        self.let_through(now, self.control.restart_handshake(now))
     }
 
     // Grants a range of counters.
@@ -156,7 +156,7 @@ impl Tunnel {
         if number != 0 {
             return self.refused(number);
         }
-        self.let_through_lem(now, self.control.send(count, now))
+        self.let_through(now, self.control.send(count, now))
     }
 
     // Commits a batch to the session with this local index and session id, and fills in the verdicts and the
@@ -183,7 +183,7 @@ impl Tunnel {
         let out = self
             .control
             .commit_decapsulate(store, index, id, now, counters, kinds, verdicts, skips);
-        self.let_through_lem(now, out)
+        self.let_through(now, out)
     }
 
     // The early look at a data message.
@@ -196,7 +196,7 @@ impl Tunnel {
         if number != 0 {
             return self.refused(number);
         }
-        self.let_through_lem(
+        self.let_through(
             now,
             self.control.begin_decapsulate(store, index, counter, now),
         )
@@ -222,7 +222,7 @@ impl Tunnel {
         let out = self
             .control
             .handle_handshake_initiation(store, peer, found, now);
-        self.let_through_lem(now, out)
+        self.let_through(now, out)
     }
 
     // Completes a handshake with a response: answers the peer's index and the keepalive's counter.
@@ -246,7 +246,7 @@ impl Tunnel {
         let out = self
             .control
             .handle_handshake_response(store, receiver, peer, found, now);
-        self.let_through_lem(now, out)
+        self.let_through(now, out)
     }
 
     // Stores the cookie of a reply.
@@ -259,7 +259,7 @@ impl Tunnel {
         if number != 0 {
             return self.refused(number);
         }
-        self.let_through_lem(now, self.control.handle_cookie_reply(receiver, found, now))
+        self.let_through(now, self.control.handle_cookie_reply(receiver, found, now))
     }
 
     // Wakes the tunnel: advances its timers and queues due events.
@@ -273,7 +273,7 @@ impl Tunnel {
             return self.refused(number);
         }
         let out = self.control.handle_timeout(store, jitter, now);
-        self.let_through_lem(now, out)
+        self.let_through(now, out)
     }
 
     // Wakes the tunnel at one time while its next deadline, queued events disregarded, is at or before it, three times at most, and answers
@@ -295,7 +295,7 @@ impl Tunnel {
             };
         }
         let out = self.control.settle(store, jitter, now);
-        self.let_through_lem(now, out)
+        self.let_through(now, out)
     }
 
     // Answers the oldest queued event.
@@ -307,7 +307,7 @@ impl Tunnel {
         if number != 0 {
             return self.refused(number);
         }
-        self.let_through_lem(0, self.control.poll_event())
+        self.let_through(0, self.control.poll_event())
     }
 
     // Answers the next deadline for waking the tunnel.
@@ -335,6 +335,6 @@ impl Tunnel {
         if number != 0 {
             return self.refused(number);
         }
-        self.let_through_lem(0, self.control.missing(store, index))
+        self.let_through(0, self.control.missing(store, index))
     }
 }

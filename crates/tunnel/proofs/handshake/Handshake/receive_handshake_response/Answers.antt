@@ -1,0 +1,16 @@
+use Rattle.tunnel.specs.Handshake.{receive_handshake_response}
+use Rattle.base.proofs.Choice.{picks}
+use borrow.Author.Rules.{rules}
+use Rattle.tunnel.proofs.handshake.Handshake.receive_handshake_response.Goals as goal
+
+pub returns-then-outcome-ne0 : goal.returns-then-outcome-ne0
+unfolding receive_handshake_response
+returns-then-outcome-ne0 c = search (picks, rules)
+
+pub returns-then-expects : goal.returns-then-expects
+unfolding receive_handshake_response
+returns-then-expects c = search (picks, rules)
+
+pub returns : goal.returns
+unfolding receive_handshake_response
+returns c = search (picks, rules)

@@ -1,0 +1,6 @@
+use lib.Bits.{and_mask}
+use borrow.Author.Rules.{rules}
+use Rattle.tunnel.proofs.ring_buffer.place_of.Goals as goal
+
+pub returns : goal.returns
+returns c = and_mask _ 4

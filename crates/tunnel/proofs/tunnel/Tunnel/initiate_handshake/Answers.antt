@@ -1,0 +1,12 @@
+use Rattle.tunnel.proofs.Framed.{way_refused, way_let_through}
+use Rattle.tunnel.specs.Tunnel.{call_start}
+use borrow.Author.Rules.{rules}
+use Rattle.tunnel.proofs.tunnel.Tunnel.initiate_handshake.Goals as goal
+
+pub returns-then-number-ne0 : goal.returns-then-number-ne0
+unfolding call_start
+returns-then-number-ne0 c = search (way_refused, rules)
+
+pub returns : goal.returns
+unfolding call_start
+returns c = search (way_let_through, rules)

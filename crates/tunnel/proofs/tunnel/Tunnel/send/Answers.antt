@@ -1,0 +1,12 @@
+use Rattle.tunnel.proofs.Framed.{way_refused, way_let_through}
+use Rattle.tunnel.specs.Tunnel.{call_send}
+use borrow.Author.Rules.{rules}
+use Rattle.tunnel.proofs.tunnel.Tunnel.send.Goals as goal
+
+pub returns-then-number-ne0 : goal.returns-then-number-ne0
+unfolding call_send
+returns-then-number-ne0 c = search (way_refused, rules)
+
+pub returns : goal.returns
+unfolding call_send
+returns c = search (way_let_through, rules)

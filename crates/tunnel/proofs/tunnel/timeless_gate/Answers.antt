@@ -1,0 +1,7 @@
+use borrow.Author.Rules.{rules}
+use Rattle.base.specs.Choice.{choose}
+use Rattle.tunnel.proofs.tunnel.timeless_gate.Goals as goal
+
+pub returns : goal.returns
+unfolding choose
+returns c = c.gate.ensures
