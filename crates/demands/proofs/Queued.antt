@@ -45,6 +45,8 @@ keepalives_first (e ∷ events) = refl
 
 -- fewer keepalives are taken where more are
 taken_less : (before later : List PolledKeepalive) (x : PolledKeepalive) (k : List Grant) → TakenFrom (before ++ x ∷ later) k → TakenFrom (before ++ later) k
+taken_less [] later x [] t = elim t [ ]
+taken_less (y ∷ before) later x [] t = elim t [ ]
 taken_less [] later x (grant ∷ k) (passed t) = passed (taken_less [] later x k t)
 taken_less [] later x (grant ∷ k) (taken t) = passed t
 taken_less (y ∷ before) later x (grant ∷ k) (passed t) = passed (taken_less (y ∷ before) later x k t)

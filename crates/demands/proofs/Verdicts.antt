@@ -11,7 +11,7 @@ use Rattle.base.specs.Choice.{choose}
 use Rattle.base.proofs.Choice.{of_choice}
 use Rattle.demands.specs.Receiving.{Judges}
 use Rattle.demands.proofs.Judged.{verdict_law}
-use Rattle.demands.specs.History.{verdict_on, skip_on, recorded_all, each_on, verdicts_on, skips_on, VerdictLaw}
+use Rattle.demands.specs.History.{verdict_on, skip_on, recorded, recorded_all, each_on, verdicts_on, skips_on, VerdictLaw}
 use Rattle.window.specs.History.{member, expected, judged}
 use Rattle.window.specs.Window.{limit, is_invalid}
 
@@ -56,7 +56,7 @@ pub long_each : (rule : List ℕ → (counter kind : ℕ) → ℕ) (history coun
 unfolding each_on
 long_each rule history [] kinds e = refl
 long_each rule history (c ∷ counters) [] e = absurd (omega (arith, e))
-long_each rule history (c ∷ counters) (k ∷ kinds) e = ap suc (long_each rule _ counters kinds (omega (arith, e)))
+long_each rule history (c ∷ counters) (k ∷ kinds) e = ap suc (long_each rule (recorded history c (verdict_on history c k)) counters kinds (omega (arith, e)))
 
 pub each_verdict : (i : ℕ) (history counters kinds : List ℕ) → length kinds ≡ length counters → i < length counters
     → Judges (recorded_all history (take i counters) (take i (verdicts_on history counters kinds))) (get_or counters i 0) (get_or kinds i 0)

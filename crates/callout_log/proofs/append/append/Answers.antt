@@ -4,8 +4,6 @@ use Rattle.callout_log.proofs.Appending.{failed, passed, store_within, store_sma
 use Rattle.callout_log.specs.Append.{append_answer, append_log}
 use Rattle.callout_log.proofs.append.append.Goals as goal
 
-)
-
 pub returns-then-not-are_times : goal.returns-then-not-are_times
 unfolding append_log append_answer
 returns-then-not-are_times c = search (not_appended, picks, failed, rules)
@@ -25,8 +23,9 @@ returns-then-not-are_verdicts c = search (not_appended, picks, failed, passed, r
 pub append_callout-requires : goal.append_callout-requires
 append_callout-requires c = (
   lists_beside _ c.if-not-are_beside.false _ c.are_beside.ensures,
-  store_within _ c.if-not-is_store.false _ _ c.is_IsStore.ensures,
-  store_small _ c.if-not-is_store.false _ _ c.is_IsStore.ensures,
+  store_within _ c.if-not-is_store.false _ _ c.is_store.ensures,
+  store_small _ c.if-not-is_store.false _ _ c.is_store.ensures,
+)
 
 pub returns : goal.returns
 unfolding append_log append_answer

@@ -34,6 +34,21 @@ offset_bounds-session_ids-at c = search (fill_session_ids, rules)
 pub offset_bounds-local_indices-at : goal.offset_bounds-local_indices-at
 offset_bounds-local_indices-at c = search (fill_local_indices, rules)
 
+pub slice_bounds-read_records-end : goal.slice_bounds-read_records-end
+slice_bounds-read_records-end c = search (fill_times, rules)
+
+pub slice_bounds-read_records-end-in-loop-end : goal.slice_bounds-read_records-end-in-loop-end
+slice_bounds-read_records-end-in-loop-end c = search (fill_counters, rules)
+
+pub slice_bounds-read_records-end-in-loop-end-2 : goal.slice_bounds-read_records-end-in-loop-end-2
+slice_bounds-read_records-end-in-loop-end-2 c = search (fill_session_ids, rules)
+
+pub slice_bounds-read_records-end-in-loop-end-3 : goal.slice_bounds-read_records-end-in-loop-end-3
+slice_bounds-read_records-end-in-loop-end-3 c = search (fill_local_indices, rules)
+
+pub slice_bounds-read_records-end-in-loop-end-4 : goal.slice_bounds-read_records-end-in-loop-end-4
+slice_bounds-read_records-end-in-loop-end-4 c = search (fill_verdicts, rules)
+
 pub read_records-requires : goal.read_records-requires
 read_records-requires c = search (fill_exactly, fill_inside, rules)
 

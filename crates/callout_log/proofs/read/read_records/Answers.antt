@@ -9,7 +9,7 @@ loop-i-init c = search (copying_begins, rules)
 
 pub loop-i-preserved : goal.loop-i-preserved
 loop-i-preserved c =
-    copying_more _ _ _ _ _ _ _ _ _ _ _ _ _ _ c.loop-i.invariant _ _ _ _ _ _ c.loop-i-test.true c.record_at_lem.ensures refl refl refl refl refl
+    copying_more _ _ _ _ _ _ _ _ _ _ _ _ _ _ c.loop-i.invariant _ _ _ _ _ _ c.loop-i-test.true c.record_at-report.ensures refl refl refl refl refl
 
 pub returns : goal.returns
-returns c = search (copying_ends, rules)
+returns c = copying_ends _ _ _ _ _ _ _ _ _ _ _ _ _ _ c.loop-i.invariant c.loop-i-test.false
