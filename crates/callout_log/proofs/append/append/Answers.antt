@@ -1,4 +1,6 @@
 use borrow.Author.Rules.{rules}
+use mathlib.Core.Bool.{not}
+use mathlib.Core.Path.{ap}
 use Rattle.base.proofs.Choice.{picks}
 use Rattle.callout_log.proofs.Appending.{failed, passed, store_within, store_small, lists_beside, not_appended, same_answer}
 use Rattle.callout_log.specs.Append.{append_answer, append_log}
@@ -22,9 +24,9 @@ returns-then-not-are_verdicts c = search (not_appended, picks, failed, passed, r
 
 pub append_callout-requires : goal.append_callout-requires
 append_callout-requires c = (
-  lists_beside _ c.if-not-are_beside.false _ c.are_beside.ensures,
-  store_within _ c.if-not-is_store.false _ _ c.is_store.ensures,
-  store_small _ c.if-not-is_store.false _ _ c.is_store.ensures,
+  lists_beside _ (ap not c.if-not-are_beside.false) _ c.are_beside.ensures,
+  store_within _ (ap not c.if-not-is_store.false) _ _ c.is_store.ensures,
+  store_small _ (ap not c.if-not-is_store.false) _ _ c.is_store.ensures,
 )
 
 pub returns : goal.returns

@@ -9,10 +9,10 @@ pub hide_lists-requires : goal.hide_lists-requires
 hide_lists-requires c =
     let e = c.read_walked-walked.ensures in
     let p = c.requires in
-    let g = c.in-Callouts in (
-      room_counters _ p.0 _ _ _ _ _ _ _ _ _ _ e g.1 p.2,
-      room_sessions _ p.0 _ _ _ _ _ _ _ _ _ _ e g.1 p.2,
-      room_indices _ p.0 _ _ _ _ _ _ _ _ _ _ e g.1 p.2,
+    let g = c.in-Callouts.is in (
+      room_counters _ p.0 _ _ _ _ _ _ _ _ _ _ e g p.2,
+      room_sessions _ p.0 _ _ _ _ _ _ _ _ _ _ e g p.2,
+      room_indices _ p.0 _ _ _ _ _ _ _ _ _ _ e g p.2,
     )
 
 pub returns-in-Callouts : goal.returns-in-Callouts
