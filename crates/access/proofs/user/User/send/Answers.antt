@@ -1,0 +1,12 @@
+use Rattle.access.proofs.Guarded.{way_through, way_outside}
+use Rattle.access.specs.User.{send_as}
+use borrow.Author.Rules.{rules}
+use Rattle.access.proofs.user.User.send.Goals as goal
+
+pub returns-then-allowed : goal.returns-then-allowed
+unfolding send_as
+returns-then-allowed c = search (way_through, way_outside, rules)
+
+pub returns : goal.returns
+unfolding send_as
+returns c = search (way_through, way_outside, rules)
