@@ -2,6 +2,11 @@
 // answers: `ok`; the verdict; the verdict, the next expected counter, the number of set bits and the skipped counters.
 #![tactic(auto)]
 
+ghost use Rattle.std.specs.Prelude.{◌≤◌, IfOk, length};
+
+use std::io;
+use std::io::{Read, Write};
+
 // The line read so far: its first letter and its number.
 #[derive(Clone, Copy)]
 struct Line {
@@ -78,55 +83,69 @@ fn reset(words: &mut [u64]) {
 }
 
 // Commits a counter, writes what that answers, and answers the next expected counter.
-fn commit(words: &mut [u64], next: u64, counter: u64) -> u64 {
+fn commit<W: Write>(out: &mut W, words: &mut [u64], next: u64, counter: u64) -> io::Result<u64> {
     let marked = window::mark_did_receive(words, next, counter);
-    io::print_decimal(1, marked.verdict as u64);
-    io::write_all(1, b" ");
-    io::print_decimal(1, marked.next);
-    io::write_all(1, b" ");
-    io::print_decimal(1, count_ones(words));
-    io::write_all(1, b" ");
-    io::print_decimal(1, marked.skipped);
-    marked.next
+    let verdict = marked.verdict;
+    let after = marked.next;
+    let ones = count_ones(words);
+    let skipped = marked.skipped;
+    write!(out, "{verdict} {after} {ones} {skipped}")?;
+    Ok(after)
 }
 
 // Carries out a line, writes its answer, and answers the next expected counter.
-fn answer(words: &mut [u64], next: u64, line: Line) -> u64 {
+fn answer<W: Write>(out: &mut W, words: &mut [u64], next: u64, line: Line) -> io::Result<u64> {
     if line.first == b'c' {
-        let after = commit(words, next, line.number);
-        io::write_all(1, b"\n");
-        return after;
+        let after = commit(out, words, next, line.number)?;
+        out.write_all(b"\n")?;
+        return Ok(after);
     }
     if line.first == b'l' {
         let verdict = window::will_accept(words, next, line.number);
-        io::print_decimal(1, verdict as u64);
-        io::write_all(1, b"\n");
-        return next;
+        write!(out, "{verdict}")?;
+        out.write_all(b"\n")?;
+        return Ok(next);
     }
     reset(words);
-    io::write_all(1, b"ok\n");
-    0
+    out.write_all(b"ok\n")?;
+    Ok(0)
 }
 
 // Carries out every line of the input.
-fn replay(input: &[u8]) {
+fn replay<W: Write>(out: &mut W, input: &[u8]) -> io::Result<()> {
     let mut words = [0u64; 128];
     let mut next = 0;
     let mut line = fresh_line();
     let mut i = 0;
     while i < input.len() {
         if input[i] == b'\n' {
-            next = answer(&mut words, next, line);
+            next = answer(out, &mut words, next, line)?;
             line = fresh_line();
         } else {
             line = line.with_byte(input[i]);
         }
         i = i + 1;
     }
+    Ok(())
 }
 
-fn main() {
-    let mut buffer = io::large_buffer();
-    let n = io::read_full(0, &mut buffer);
-    replay(&buffer[..n]);
+// Reads until the buffer is full or the input ends, and answers how many bytes came.
+fn read_full<R: Read>(input: &mut R, buffer: &mut [u8]) -> io::Result<usize>
+    ensures { IfOk result (λ n. n ≤ length buffer.new) }
+{
+    let mut at = 0;
+    while at < buffer.len() {
+        let came = input.read(&mut buffer[at..])?;
+        if came == 0 {
+            return Ok(at);
+        }
+        at = at + came;
+    }
+    Ok(at)
+}
+
+fn main(rt: HostRuntime) -> io::Result<()> {
+    let mut buffer = [0u8; 65536];
+    let n = read_full(&mut rt.reader(), &mut buffer)?;
+    replay(&mut io::writer(&rt), &buffer[..n])
 }
