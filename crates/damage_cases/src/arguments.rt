@@ -5,6 +5,8 @@ use crate::judge::ANSWERED;
 use crate::request::{MOST, RECEIVE, SEND, SETTLING, START, WAKING, good};
 use crate::sound::GREATEST;
 use crate::tally::Tally;
+use std::io;
+use std::io::Write;
 use tunnel::tunnel::TIME_LIMIT;
 
 // Every call that has a time, at a time above the limit.
@@ -140,17 +142,17 @@ fn numbers() -> Tally {
 }
 
 // Writes the groups of numbers 1 and 2.
-pub fn argument_groups() {
+pub fn argument_groups<W: Write>(out: &mut W) -> io::Result<()> {
     time_cases(TIME_LIMIT + 1)
         .plus(time_cases(MOST))
-        .print(b"1 time");
+        .print(out, b"1 time")?;
     store_cases(0)
         .plus(store_cases(1023))
         .plus(store_cases(1025))
-        .print(b"2 store length");
-    all_unequal_lists().print(b"2 unequal lists");
-    long_lists().print(b"2 long lists");
-    kinds().print(b"2 kinds");
-    outcomes().print(b"2 outcomes");
-    numbers().print(b"2 count and jitter");
+        .print(out, b"2 store length")?;
+    all_unequal_lists().print(out, b"2 unequal lists")?;
+    long_lists().print(out, b"2 long lists")?;
+    kinds().print(out, b"2 kinds")?;
+    outcomes().print(out, b"2 outcomes")?;
+    numbers().print(out, b"2 count and jitter")
 }

@@ -7,6 +7,8 @@ use crate::judge::ANSWERED;
 use crate::request::{MOST, RECEIVE, Request, good};
 use crate::sound::GREATEST;
 use crate::tally::Tally;
+use std::io;
+use std::io::Write;
 
 // The time at which the session, established at 3,000, is 180 s old.
 const TOO_OLD: u64 = 180_000_003_000;
@@ -46,39 +48,39 @@ fn unfilled() -> Damage {
 }
 
 // Writes the group of expired tunnels, with sessions and without.
-fn expired_group() {
+fn expired_group<W: Write>(out: &mut W) -> io::Result<()> {
     batches_at(ended(), GREATEST + 1, 11)
         .plus(batches_at(woken(), 100_000_000_001, 11))
-        .print(b"11 batches");
+        .print(out, b"11 batches")
 }
 
 // Writes the group of session ids: the session's, another session's and the greatest.
-fn id_group() {
+fn id_group<W: Write>(out: &mut W) -> io::Result<()> {
     id_batches(0, ANSWERED)
         .plus(id_batches(1, 12))
         .plus(id_batches(MOST, 12))
-        .print(b"12 session id of a batch");
+        .print(out, b"12 session id of a batch")
 }
 
 // Writes the group of local indices: of an empty slot, of an empty slot that holds it, and of the session's slot.
-fn index_group() {
+fn index_group<W: Write>(out: &mut W) -> io::Result<()> {
     index_batches(no_damage(), 259, 12)
         .plus(index_batches(unfilled(), 256, 12))
         .plus(index_batches(no_damage(), 265, 12))
-        .print(b"12 local index of a batch");
+        .print(out, b"12 local index of a batch")
 }
 
 // Writes the group of ages: a nanosecond below 180 s, and 180 s.
-fn age_group() {
+fn age_group<W: Write>(out: &mut W) -> io::Result<()> {
     batches_at(no_damage(), TOO_OLD - 1, ANSWERED)
         .plus(batches_at(no_damage(), TOO_OLD, 12))
-        .print(b"12 age of a batch's session");
+        .print(out, b"12 age of a batch's session")
 }
 
 // Writes the groups of batches that the state turns down.
-pub fn batch_groups() {
-    expired_group();
-    id_group();
-    index_group();
-    age_group();
+pub fn batch_groups<W: Write>(out: &mut W) -> io::Result<()> {
+    expired_group(out)?;
+    id_group(out)?;
+    index_group(out)?;
+    age_group(out)
 }

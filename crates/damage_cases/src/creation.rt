@@ -4,6 +4,8 @@ use crate::judge::{ANSWERED, all_words, code_of};
 use crate::same::same_tunnel;
 use crate::sound::made;
 use crate::tally::{Tally, case_of};
+use std::io;
+use std::io::Write;
 use tunnel::tunnel::{Answered, TIME_LIMIT, Tunnel};
 
 // Creates a tunnel over so many words.
@@ -41,16 +43,16 @@ fn no_case(n: usize, keepalive: u64, now: u64, number: u64) -> Tally {
 }
 
 // Writes the groups of creation.
-pub fn creation_groups() {
+pub fn creation_groups<W: Write>(out: &mut W) -> io::Result<()> {
     no_case(1024, 25, TIME_LIMIT + 1, 1)
         .plus(no_case(1023, 65536, TIME_LIMIT + 1, 1))
-        .print(b"creation 1");
+        .print(out, b"creation 1")?;
     no_case(0, 25, 0, 2)
         .plus(no_case(1023, 25, 0, 2))
         .plus(no_case(1025, 25, 0, 2))
         .plus(no_case(1024, 65536, 0, 2))
-        .print(b"creation 2");
+        .print(out, b"creation 2")?;
     case_of(created(0, 0))
         .plus(case_of(created(65535, TIME_LIMIT)))
-        .print(b"creation");
+        .print(out, b"creation")
 }

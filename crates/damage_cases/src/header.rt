@@ -2,6 +2,8 @@
 use crate::ask::at_most;
 use crate::tally::{Tally, case_of, no_cases};
 use message::{Written, write_header};
+use std::io;
+use std::io::Write;
 
 // Whether every byte has a value.
 fn all_bytes(bytes: &[u8], value: u8) -> bool {
@@ -59,7 +61,9 @@ fn lengths(from: usize, to: usize) -> Tally {
 }
 
 // Writes the groups of the header.
-pub fn header_groups() {
-    lengths(0, 16).plus(lengths(17, 65)).print(b"header 2");
-    case_of(written()).print(b"header");
+pub fn header_groups<W: Write>(out: &mut W) -> io::Result<()> {
+    lengths(0, 16)
+        .plus(lengths(17, 65))
+        .print(out, b"header 2")?;
+    case_of(written()).print(out, b"header")
 }

@@ -29,13 +29,15 @@ use crate::creation::creation_groups;
 use crate::header::header_groups;
 use crate::order::order_groups;
 use crate::outside::report_groups;
+use std::io;
 
-fn main() {
-    clause_groups();
-    argument_groups();
-    order_groups();
-    batch_groups();
-    report_groups();
-    creation_groups();
-    header_groups();
+fn main(rt: HostRuntime) -> io::Result<()> {
+    let mut out = io::writer(&rt);
+    clause_groups(&mut out)?;
+    argument_groups(&mut out)?;
+    order_groups(&mut out)?;
+    batch_groups(&mut out)?;
+    report_groups(&mut out)?;
+    creation_groups(&mut out)?;
+    header_groups(&mut out)
 }

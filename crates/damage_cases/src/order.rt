@@ -5,6 +5,8 @@ use crate::fields::LAST_UPDATE;
 use crate::request::{START, bad, good};
 use crate::sound::GREATEST;
 use crate::tally::Tally;
+use std::io;
+use std::io::Write;
 use tunnel::tunnel::TIME_LIMIT;
 
 // The sound tunnel with its last update beyond the greatest time.
@@ -26,21 +28,21 @@ fn bad_calls(damage: Damage, now: u64, calls: u64, expected: u64) -> Tally {
 }
 
 // Writes the groups of the order.
-fn order_of_checks() {
-    bad_calls(no_damage(), TIME_LIMIT + 1, TIMED_RANGED, 1).print(b"1 before 2");
-    good_calls(late(), TIME_LIMIT + 1, TIMED, 1).print(b"1 before 14");
-    bad_calls(late(), GREATEST, RANGED, 2).print(b"2 before 14");
-    bad_calls(no_damage(), GREATEST - 1, TIMED_RANGED, 2).print(b"2 before 13");
-    good_calls(late(), GREATEST - 1, ALL, 14).print(b"14 before 13");
-    good_calls(ended(), GREATEST - 1, TIMED, 13).print(b"13 before 11");
+fn order_of_checks<W: Write>(out: &mut W) -> io::Result<()> {
+    bad_calls(no_damage(), TIME_LIMIT + 1, TIMED_RANGED, 1).print(out, b"1 before 2")?;
+    good_calls(late(), TIME_LIMIT + 1, TIMED, 1).print(out, b"1 before 14")?;
+    bad_calls(late(), GREATEST, RANGED, 2).print(out, b"2 before 14")?;
+    bad_calls(no_damage(), GREATEST - 1, TIMED_RANGED, 2).print(out, b"2 before 13")?;
+    good_calls(late(), GREATEST - 1, ALL, 14).print(out, b"14 before 13")?;
+    good_calls(ended(), GREATEST - 1, TIMED, 13).print(out, b"13 before 11")
 }
 
 // Writes the groups of the order, the clock and the end.
-pub fn order_groups() {
-    order_of_checks();
+pub fn order_groups<W: Write>(out: &mut W) -> io::Result<()> {
+    order_of_checks(out)?;
     good_calls(no_damage(), GREATEST - 1, TIMED, 13)
         .plus(good_calls(no_damage(), 0, TIMED, 13))
-        .print(b"13 clock that goes back");
-    good_calls(ended(), GREATEST + 1, ALL, OF_EXPIRED).print(b"11 expired with sessions");
-    good_calls(woken(), 100_000_000_001, ALL, OF_EMPTY).print(b"11 expired by a waking");
+        .print(out, b"13 clock that goes back")?;
+    good_calls(ended(), GREATEST + 1, ALL, OF_EXPIRED).print(out, b"11 expired with sessions")?;
+    good_calls(woken(), 100_000_000_001, ALL, OF_EMPTY).print(out, b"11 expired by a waking")
 }

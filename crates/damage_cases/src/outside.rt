@@ -6,6 +6,8 @@ use crate::request::MOST;
 use crate::same::same_tunnel;
 use crate::tally::{Tally, case_of, no_cases};
 use sessions::session::REJECT_AFTER_MESSAGES;
+use std::io;
+use std::io::Write;
 use tunnel::answer::Answer;
 use tunnel::tunnel::Answered;
 
@@ -243,10 +245,10 @@ fn rows(ones: u64) -> Tally {
 }
 
 // Writes the groups of missing reports.
-pub fn report_groups() {
-    rows(EVERYWHERE).print(b"missing report: ones everywhere");
-    rows(NOWHERE).print(b"missing report: no ones");
-    rows(OUTSIDE).print(b"missing report: ones outside the window");
-    rows(ENDS).print(b"missing report: ones at the window's ends");
-    rows(OTHERS).print(b"missing report: ones in the other slots");
+pub fn report_groups<W: Write>(out: &mut W) -> io::Result<()> {
+    rows(EVERYWHERE).print(out, b"missing report: ones everywhere")?;
+    rows(NOWHERE).print(out, b"missing report: no ones")?;
+    rows(OUTSIDE).print(out, b"missing report: ones outside the window")?;
+    rows(ENDS).print(out, b"missing report: ones at the window's ends")?;
+    rows(OTHERS).print(out, b"missing report: ones in the other slots")
 }

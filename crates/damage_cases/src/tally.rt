@@ -1,4 +1,6 @@
 // The count of cases.
+use std::io;
+use std::io::Write;
 
 // Cases that were tried, and how many went wrong.
 #[derive(Clone, Copy)]
@@ -30,12 +32,10 @@ impl Tally {
     }
 
     // Writes the line of a group.
-    pub fn print(self, name: &[u8]) {
-        io::write_all(1, name);
-        io::write_all(1, b": ");
-        io::print_decimal(1, self.cases);
-        io::write_all(1, b" cases, ");
-        io::print_decimal(1, self.wrong);
-        io::write_all(1, b" wrong\n");
+    pub fn print<W: Write>(self, out: &mut W, name: &[u8]) -> io::Result<()> {
+        let cases = self.cases;
+        let wrong = self.wrong;
+        out.write_all(name)?;
+        write!(out, ": {cases} cases, {wrong} wrong\n")
     }
 }

@@ -5,6 +5,8 @@ use crate::lists::{
 };
 use crate::tally::{Tally, case_of, no_cases};
 use callout_log::append::{Appended, append};
+use std::io;
+use std::io::Write;
 
 // The reports of an append: how much of the lists is lent, and the time and the verdict of the fourth report.
 #[derive(Clone, Copy)]
@@ -200,12 +202,14 @@ fn times() -> Tally {
 }
 
 // Writes the groups of appending.
-pub fn append_groups() {
-    few_bytes().plus(most_bytes()).print(b"append, stores");
+pub fn append_groups<W: Write>(out: &mut W) -> io::Result<()> {
+    few_bytes()
+        .plus(most_bytes())
+        .print(out, b"append, stores")?;
     lengths(TIMES, 100, 0, 0, 2)
         .plus(lists(100, 0, 0, 2))
         .plus(lists(256, 0, 19, 2))
-        .print(b"append, lists");
-    times().print(b"append, times");
-    verdicts().print(b"append, verdicts");
+        .print(out, b"append, lists")?;
+    times().print(out, b"append, times")?;
+    verdicts().print(out, b"append, verdicts")
 }

@@ -10,8 +10,10 @@ mod tally;
 
 use crate::appending::append_groups;
 use crate::reading::read_groups;
+use std::io;
 
-fn main() {
-    append_groups();
-    read_groups();
+fn main(rt: HostRuntime) -> io::Result<()> {
+    let mut out = io::writer(&rt);
+    append_groups(&mut out)?;
+    read_groups(&mut out)
 }

@@ -8,6 +8,8 @@ use crate::lists::{
 };
 use crate::tally::{Tally, case_of, no_cases};
 use callout_log::read::{Walked, read};
+use std::io;
+use std::io::Write;
 
 // What is added to a number that turns a call down, so that it is not taken for a number of callouts.
 const NO: usize = 100;
@@ -240,9 +242,11 @@ fn records(len: usize) -> Tally {
 }
 
 // Writes the groups of reading.
-pub fn read_groups() {
-    used_lengths().plus(most_bytes()).print(b"read, stores");
-    lists(4).plus(lists(8)).print(b"read, lists");
-    trailers(8).plus(trailers(0)).print(b"read, trailers");
-    records(8).plus(records(0)).print(b"read, records");
+pub fn read_groups<W: Write>(out: &mut W) -> io::Result<()> {
+    used_lengths()
+        .plus(most_bytes())
+        .print(out, b"read, stores")?;
+    lists(4).plus(lists(8)).print(out, b"read, lists")?;
+    trailers(8).plus(trailers(0)).print(out, b"read, trailers")?;
+    records(8).plus(records(0)).print(out, b"read, records")
 }
