@@ -16,7 +16,8 @@ use crate::datagrams::datagrams;
 use crate::day::rounds;
 use crate::logs::logs;
 use crate::turns::{deadlines, drained, events, looks, receives, reports, sends, settles, wakes};
-use libc::{STDIN_FILENO, STDOUT_FILENO};
+use std::io;
+use std::io::{Read, Write};
 use tunnel::tunnel::{Answered, Tunnel};
 
 // What the input asks for.
@@ -174,41 +175,49 @@ fn sum(bytes: &[u8]) -> u64 {
 }
 
 // Writes a number that depends on a call's answer.
-fn print(answered: Answered) {
+fn print<W: Write>(out: &mut W, answered: Answered) -> io::Result<()> {
     let answer = answered.answer;
-    io::print_decimal(STDOUT_FILENO, weight(answer));
-    io::write_all(STDOUT_FILENO, b" ");
+    let number = weight(answer);
+    write!(out, "{number} ")
+}
+
+// Writes a sum and ends the line.
+fn print_sum<W: Write>(out: &mut W, total: u64) -> io::Result<()> {
+    write!(out, "{total}\n")
 }
 
 // Writes the last of the missing reports, the deadline, the counter of a send and the verdicts' sum.
-fn report(tunnel: Tunnel, store: &[u64], verdicts: &[u8], turns: usize) {
-    print(reports(tunnel, store, turns));
-    print(tunnel.poll_timeout());
-    print(tunnel.send(1, tunnel.greatest));
-    io::print_decimal(STDOUT_FILENO, sum(verdicts));
-    io::write_all(STDOUT_FILENO, b"\n");
+fn report<W: Write>(
+    out: &mut W,
+    tunnel: Tunnel,
+    store: &[u64],
+    verdicts: &[u8],
+    turns: usize,
+) -> io::Result<()> {
+    print(out, reports(tunnel, store, turns))?;
+    print(out, tunnel.poll_timeout())?;
+    print(out, tunnel.send(1, tunnel.greatest))?;
+    print_sum(out, sum(verdicts))
 }
 
 // The cases of datagrams.
-fn datagram_case(case: u8, input: &[u8]) {
+fn datagram_case<W: Write>(out: &mut W, case: u8, input: &[u8]) -> io::Result<()> {
     if input.len() < 3 {
-        return;
+        return Ok(());
     }
     let mut bytes = [0u8; 65536];
     let total = datagrams(&mut bytes, case, &input[3..]);
-    io::print_decimal(STDOUT_FILENO, total);
-    io::write_all(STDOUT_FILENO, b"\n");
+    print_sum(out, total)
 }
 
 // The cases of a log.
-fn log_case(asked: Asked) {
+fn log_case<W: Write>(out: &mut W, asked: Asked) -> io::Result<()> {
     let total = logs(asked.case, asked.pattern, asked.len, asked.turns);
-    io::print_decimal(STDOUT_FILENO, total);
-    io::write_all(STDOUT_FILENO, b"\n");
+    print_sum(out, total)
 }
 
 // The cases of a tunnel.
-fn tunnel_case(asked: Asked) {
+fn tunnel_case<W: Write>(out: &mut W, asked: Asked) -> io::Result<()> {
     let mut store = [0u64; 1024];
     let mut counters = [0u64; 65536];
     let kinds = [0u8; 1024];
@@ -224,18 +233,18 @@ fn tunnel_case(asked: Asked) {
         &mut verdicts,
         &mut skips,
     );
-    report(tunnel, &store, &verdicts, reports_of(asked));
+    report(out, tunnel, &store, &verdicts, reports_of(asked))
 }
 
-fn main() {
-    let mut input = io::large_buffer();
-    let got = libc::read(STDIN_FILENO, &mut input);
-    let count = io::count(got, &input);
+fn main(rt: HostRuntime) -> io::Result<()> {
+    let mut input = [0u8; 65536];
+    let count = rt.reader().read(&mut input)?;
+    let mut out = io::writer(&rt);
     let asked = ask(&input[..count]);
     let case = asked.case;
     match case {
-        b'g' | b'w' => datagram_case(case, &input[..count]),
-        b'a' | b'v' => log_case(asked),
-        _ => tunnel_case(asked),
+        b'g' | b'w' => datagram_case(&mut out, case, &input[..count]),
+        b'a' | b'v' => log_case(&mut out, asked),
+        _ => tunnel_case(&mut out, asked),
     }
 }
