@@ -1,15 +1,16 @@
 // Reads calls from standard input, one a line, and writes one line for each to standard output.
 #![tactic(auto)]
 
-ghost use Rattle.std.specs.Prelude.{◌≤◌, length};
+ghost use Rattle.std.specs.Prelude.{◌≤◌, IfOk, length};
 
-use libc::{STDIN_FILENO, STDOUT_FILENO};
 use script::answer::put_line;
 use script::call::call;
 use script::line::{Line, admitted, read, starts};
 use script::log_line::{Log, LogCall, call_log, first_log, put_log};
 use script::skips::{Skips, skips_after};
 use sessions::sessions::Ahead;
+use std::io;
+use std::io::{Read, Write};
 use text::gather::{Gathered, newline};
 use tunnel::answer::Answer;
 use tunnel::tunnel::{Answered, Tunnel};
@@ -33,19 +34,20 @@ struct Progress {
 }
 
 // Writes out what waits.
-fn flush(waiting: usize, out: &[u8]) {
+fn flush<W: Write>(writer: &mut W, waiting: usize, out: &[u8]) -> io::Result<()> {
     if waiting <= out.len() {
-        io::write_all(STDOUT_FILENO, &out[..waiting]);
+        writer.write_all(&out[..waiting])?;
     }
+    Ok(())
 }
 
 // Writes out what waits if a further answer might not fit, and answers how much waits then: 196,608 bytes are free for it.
-fn make_room(waiting: usize, out: &[u8]) -> usize {
+fn make_room<W: Write>(writer: &mut W, waiting: usize, out: &[u8]) -> io::Result<usize> {
     if waiting > 65536 {
-        flush(waiting, out);
-        return 0;
+        flush(writer, waiting, out)?;
+        return Ok(0);
     }
-    waiting
+    Ok(waiting)
 }
 
 // The line that was gathered; one that is too long cannot be read.
@@ -76,7 +78,8 @@ fn starts_with(started: bool, line: Line) -> bool {
 }
 
 // Puts the answer of a line.
-fn answer(
+fn answer<W: Write>(
+    writer: &mut W,
     console: Console,
     line: Line,
     answer: Answer,
@@ -86,17 +89,18 @@ fn answer(
     list: &[u64],
     bytes: &[u8],
     out: &mut [u8],
-) -> Console {
-    let at = make_room(console.written, out);
-    Console {
+) -> io::Result<Console> {
+    let at = make_room(writer, console.written, out)?;
+    Ok(Console {
         started: starts_with(console.started, line),
         gathered: Gathered::new(),
         written: put_line(out, at, line, answer, ahead, verdicts, skips, list, bytes),
-    }
+    })
 }
 
 // Puts the answer of a line's call.
-fn answer_call(
+fn answer_call<W: Write>(
+    writer: &mut W,
     progress: Progress,
     answered: Answered,
     asked: Line,
@@ -104,13 +108,14 @@ fn answer_call(
     list: &[u64],
     bytes: &[u8],
     out: &mut [u8],
-) -> Progress {
+) -> io::Result<Progress> {
     let tunnel = answered.tunnel;
     let reply = answered.answer;
     let sessions = tunnel.control.sessions;
     let before = progress.skips;
     let skips = skips_after(before, asked, reply);
     let after = answer(
+        writer,
         progress.console,
         asked,
         reply,
@@ -120,30 +125,31 @@ fn answer_call(
         list,
         bytes,
         out,
-    );
-    Progress {
+    )?;
+    Ok(Progress {
         tunnel,
         skips,
         console: after,
         ..progress
-    }
+    })
 }
 
 // Makes a line's call about the log, whose store stands in a buffer, and puts its answer.
-fn end_log_line(
+fn end_log_line<W: Write>(
+    writer: &mut W,
     progress: Progress,
     call: LogCall,
     line: &[u8],
     bytes: &[u8],
     log: &mut [u8; 70000],
     out: &mut [u8],
-) -> Progress {
+) -> io::Result<Progress> {
     let console = progress.console;
     let answered = call_log(progress.log, call, line, bytes, log);
-    let at = make_room(console.written, out);
+    let at = make_room(writer, console.written, out)?;
     let end = put_log(out, at, call, answered, log);
     let after = answered.log;
-    Progress {
+    Ok(Progress {
         log: after,
         console: Console {
             gathered: Gathered::new(),
@@ -151,11 +157,12 @@ fn end_log_line(
             ..console
         },
         ..progress
-    }
+    })
 }
 
 // Makes the call of the line that was gathered, and puts its answer.
-fn end_line(
+fn end_line<W: Write>(
+    writer: &mut W,
     progress: Progress,
     line: &[u8; 65536],
     bytes: &mut [u8; 32768],
@@ -163,14 +170,14 @@ fn end_line(
     list: &mut [u64; 1025],
     log: &mut [u8; 70000],
     out: &mut [u8; 262144],
-) -> Progress {
+) -> io::Result<Progress> {
     let mut counters = [0u64; 1025];
     let mut kinds = [0u8; 1025];
     let mut verdicts = [0u8; 1025];
     let console = progress.console;
     let asked = gathered_line(console, line, &mut counters, &mut kinds, bytes);
     if let Line::Log(asked_log) = asked {
-        return end_log_line(progress, asked_log, line, bytes, log, out);
+        return end_log_line(writer, progress, asked_log, line, bytes, log, out);
     }
     let answered = call(
         progress.tunnel,
@@ -181,7 +188,9 @@ fn end_line(
         &mut verdicts,
         list,
     );
-    answer_call(progress, answered, asked, &verdicts, list, bytes, out)
+    answer_call(
+        writer, progress, answered, asked, &verdicts, list, bytes, out,
+    )
 }
 
 // The console with the bytes up to the next newline.
@@ -194,7 +203,8 @@ fn gather(console: Console, line: &mut [u8], part: &[u8]) -> Console {
 }
 
 // Answers each line that ends in a part of the input.
-fn take_part(
+fn take_part<W: Write>(
+    writer: &mut W,
     mut progress: Progress,
     input: &[u8],
     line: &mut [u8; 65536],
@@ -203,35 +213,34 @@ fn take_part(
     list: &mut [u64; 1025],
     log: &mut [u8; 70000],
     out: &mut [u8; 262144],
-) -> Progress {
+) -> io::Result<Progress> {
     let mut at = 0;
     while at < input.len() {
         let end = newline(input, at);
         progress.console = gather(progress.console, line, &input[at..end]);
         if end >= input.len() {
-            return progress;
+            return Ok(progress);
         }
         at = end + 1;
-        progress = end_line(progress, line, bytes, store, list, log, out);
+        progress = end_line(writer, progress, line, bytes, store, list, log, out)?;
     }
-    progress
+    Ok(progress)
 }
 
 // The console with nothing waiting: all of it is written out.
-fn emptied(console: Console, out: &[u8]) -> Console {
-    flush(console.written, out);
-    Console {
+fn emptied<W: Write>(writer: &mut W, console: Console, out: &[u8]) -> io::Result<Console> {
+    flush(writer, console.written, out)?;
+    Ok(Console {
         written: 0,
         ..console
-    }
+    })
 }
 
 // Reads once, and answers how many bytes came: none at the input's end.
-fn read_input(input: &mut [u8]) -> usize
-    ensures { result ≤ length input.new }
+fn read_input<R: Read>(reader: &mut R, input: &mut [u8]) -> io::Result<usize>
+    ensures { IfOk result (λ n. n ≤ length input.new) }
 {
-    let got = libc::read(STDIN_FILENO, input);
-    io::count(got, input)
+    reader.read(input)
 }
 
 // How many bytes of the input to take: as many as came. At the input's end, where none came, a line that has no newline gets one.
@@ -254,7 +263,8 @@ fn to_take(console: Console, came: usize, input: &mut [u8]) -> usize
 }
 
 // Takes the bytes that came, and writes out what waits then.
-fn take_input(
+fn take_input<W: Write>(
+    writer: &mut W,
     mut progress: Progress,
     came: usize,
     input: &mut [u8],
@@ -264,18 +274,30 @@ fn take_input(
     list: &mut [u64; 1025],
     log: &mut [u8; 70000],
     out: &mut [u8; 262144],
-) -> Progress
+) -> io::Result<Progress>
     requires { came ≤ length input.old }
 {
     let n = to_take(progress.console, came, input);
-    progress = take_part(progress, &input[..n], line, bytes, store, list, log, out);
-    progress.console = emptied(progress.console, out);
-    progress
+    progress = take_part(
+        writer,
+        progress,
+        &input[..n],
+        line,
+        bytes,
+        store,
+        list,
+        log,
+        out,
+    )?;
+    progress.console = emptied(writer, progress.console, out)?;
+    Ok(progress)
 }
 
 // A proved loop has to end, and nothing says that the input does. So the loop counts its turns down, from a number that no run
 // uses up.
-fn take_all(
+fn take_all<R: Read, W: Write>(
+    reader: &mut R,
+    writer: &mut W,
     mut progress: Progress,
     input: &mut [u8],
     line: &mut [u8; 65536],
@@ -284,16 +306,19 @@ fn take_all(
     list: &mut [u64; 1025],
     log: &mut [u8; 70000],
     out: &mut [u8; 262144],
-) {
+) -> io::Result<()> {
     let mut turns = u64::MAX;
     while turns > 0 {
-        let came = read_input(input);
-        progress = take_input(progress, came, input, line, bytes, store, list, log, out);
+        let came = read_input(reader, input)?;
+        progress = take_input(
+            writer, progress, came, input, line, bytes, store, list, log, out,
+        )?;
         if came == 0 {
-            return;
+            return Ok(());
         }
         turns = turns - 1;
     }
+    Ok(())
 }
 
 // The progress before the first line, with a zero store.
@@ -313,9 +338,9 @@ fn fresh(store: &mut [u64]) -> Progress {
     }
 }
 
-fn main() {
-    let mut input = io::large_buffer();
-    let mut line = io::large_buffer();
+fn main(rt: HostRuntime) -> io::Result<()> {
+    let mut input = [0u8; 65536];
+    let mut line = [0u8; 65536];
     let mut bytes = [0u8; 32768];
     let mut out = [0u8; 262144];
     let mut store = [0u64; 1024];
@@ -323,6 +348,15 @@ fn main() {
     let mut log = [0u8; 70000];
     let progress = fresh(&mut store);
     take_all(
-        progress, &mut input, &mut line, &mut bytes, &mut store, &mut list, &mut log, &mut out,
-    );
+        &mut rt.reader(),
+        &mut io::writer(&rt),
+        progress,
+        &mut input,
+        &mut line,
+        &mut bytes,
+        &mut store,
+        &mut list,
+        &mut log,
+        &mut out,
+    )
 }

@@ -1,0 +1,10 @@
+use Rattle.std.proofs.Common.{◌-◌, ◌≤◌, rules}
+use Rattle.damage_cases.proofs.clauses.past_edge.Given as goal
+
+abbrev pub invariant-loop-field : goal.invariant-loop-field
+invariant-loop-field l =
+    0 ≤ l.field
+
+abbrev pub decreases-loop-field : goal.decreases-loop-field
+decreases-loop-field l =
+    l.end - l.field
