@@ -1,4 +1,4 @@
-use Rattle.std.proofs.Common.{◌-◌, ◌≤◌, rules}
+use Rattle.std.proofs.Common.{◌-◌, ◌≤◌}
 use Rattle.damage_cases.proofs.clauses.at_edge.Given as goal
 
 abbrev pub invariant-loop-field : goal.invariant-loop-field

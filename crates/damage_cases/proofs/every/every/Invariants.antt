@@ -1,4 +1,4 @@
-use Rattle.std.proofs.Common.{◌-◌, ◌≤◌, rules}
+use Rattle.std.proofs.Common.{◌-◌, ◌≤◌}
 use Rattle.damage_cases.proofs.every.every.Given as goal
 
 abbrev pub invariant-loop-call : goal.invariant-loop-call

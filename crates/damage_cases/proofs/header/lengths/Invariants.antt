@@ -1,4 +1,4 @@
-use Rattle.std.proofs.Common.{◌-◌, ◌≤◌, rules}
+use Rattle.std.proofs.Common.{◌-◌, ◌≤◌}
 use Rattle.damage_cases.proofs.header.lengths.Given as goal
 
 abbrev pub invariant-loop-n : goal.invariant-loop-n

@@ -1,4 +1,4 @@
-use Rattle.std.proofs.Common.{◌-◌, ◌≤◌, rules}
+use Rattle.std.proofs.Common.{◌-◌, ◌≤◌}
 use Rattle.damage_cases.proofs.same.same_events.Given as goal
 
 abbrev pub invariant-loop-place : goal.invariant-loop-place

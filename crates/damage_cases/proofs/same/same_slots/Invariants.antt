@@ -1,4 +1,4 @@
-use Rattle.std.proofs.Common.{◌-◌, ◌≤◌, rules}
+use Rattle.std.proofs.Common.{◌-◌, ◌≤◌}
 use Rattle.damage_cases.proofs.same.same_slots.Given as goal
 
 abbrev pub invariant-loop-slot : goal.invariant-loop-slot

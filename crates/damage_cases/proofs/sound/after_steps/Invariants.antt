@@ -1,4 +1,4 @@
-use Rattle.std.proofs.Common.{◌≡◌, ◌-◌, ◌≤◌, length, rules}
+use Rattle.std.proofs.Common.{◌≡◌, ◌-◌, ◌≤◌, length}
 use Rattle.damage_cases.proofs.sound.after_steps.Given as goal
 
 abbrev pub invariant-loop-step : goal.invariant-loop-step
