@@ -1,0 +1,10 @@
+use Rattle.std.proofs.Common.{◌-◌, ◌≤◌, rules}
+use Rattle.log_edges.proofs.appending.lengths.Given as goal
+
+abbrev pub invariant-loop-len : goal.invariant-loop-len
+invariant-loop-len l =
+    l.len ≤ 9
+
+abbrev pub decreases-loop-len : goal.decreases-loop-len
+decreases-loop-len l =
+    9 - l.len
