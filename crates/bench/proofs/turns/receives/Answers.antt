@@ -1,0 +1,6 @@
+use Rattle.std.proofs.Common.{◌≡◌, ◌-◌, ◌≤◌, length, rules}
+use Rattle.bench.proofs.turns.receives.Goals as goal
+
+pub overflow_add-i : goal.overflow_add-i
+overflow_add-i c =
+    search rules
