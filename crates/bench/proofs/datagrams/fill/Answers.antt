@@ -1,4 +1,4 @@
-use Rattle.std.proofs.Common.{◌≡◌, ◌-◌, ◌≤◌, length, length-set, rules}
+use Rattle.std.proofs.Common.{length-set, rules}
 use Rattle.bench.proofs.datagrams.fill.Goals as goal
 
 pub loop-i-preserved : goal.loop-i-preserved

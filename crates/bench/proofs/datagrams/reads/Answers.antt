@@ -1,4 +1,4 @@
-use Rattle.std.proofs.Common.{◌-◌, ◌≤◌, length, arith, rules}
+use Rattle.std.proofs.Common.{arith}
 use Rattle.bench.proofs.datagrams.reads.Goals as goal
 
 pub overflow_add-end : goal.overflow_add-end

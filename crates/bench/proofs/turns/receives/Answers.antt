@@ -1,4 +1,4 @@
-use Rattle.std.proofs.Common.{◌≡◌, ◌-◌, ◌≤◌, length, rules}
+use Rattle.std.proofs.Common.{rules}
 use Rattle.bench.proofs.turns.receives.Goals as goal
 
 pub overflow_add-i : goal.overflow_add-i

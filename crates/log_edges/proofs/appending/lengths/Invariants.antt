@@ -1,4 +1,4 @@
-use Rattle.std.proofs.Common.{◌-◌, ◌≤◌, rules}
+use Rattle.std.proofs.Common.{◌-◌, ◌≤◌}
 use Rattle.log_edges.proofs.appending.lengths.Given as goal
 
 abbrev pub invariant-loop-len : goal.invariant-loop-len

@@ -1,4 +1,4 @@
-use Rattle.std.proofs.Common.{◌-◌, ◌≤◌, rules}
+use Rattle.std.proofs.Common.{◌-◌, ◌≤◌}
 use Rattle.log_edges.proofs.reading.bytes.Given as goal
 
 abbrev pub invariant-loop-at : goal.invariant-loop-at
