@@ -4,7 +4,7 @@ use Rattle.base.specs.Choice.{choose}
 use Rattle.base.specs.Lists.{up_from}
 use Rattle.tunnel.specs.declared.answer.Answer.TheVariants.{Granted}
 use Rattle.tunnel.specs.declared.answer.Answer.{Answer}
-use Rattle.demands.specs.Calls.Call.{send, timeout, event}
+use Rattle.demands.specs.Calls.Call.{send, timeout}
 use Rattle.demands.specs.Calls.{Call, World, Reply, step, after, Creation, created, Good, Expired}
 use Rattle.demands.specs.Made.{Made, made, case_waking, case_answer, wakings_of, insertion_by, insertions, message_of}
 use Rattle.demands.specs.Wakings.{ran_new, ran_after, Current}

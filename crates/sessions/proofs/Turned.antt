@@ -1,6 +1,6 @@
 -- Which lists make a batch, and what a batch that is turned down or empty leaves.
 -- Assumes nothing.
-use Rattle.std.proofs.Common.{◌≡◌, ℕ, zero, suc, ◌*◌, ◌%◌, ◌<◌, ◌≤◌, Bool, true, false, ◌||◌, eqb, ltb, List, [], ◌∷◌, length, get_or, take, drop, sym, refl, ap, ◌∙◌, arith, take-append-drop, take-take, drop-drop, ltb-false, le-ltb, eq-eqb, eqb-true}
+use Rattle.std.proofs.Common.{◌≡◌, ℕ, zero, suc, ◌*◌, ◌%◌, ◌<◌, ◌≤◌, Bool, true, false, eqb, ltb, List, [], ◌∷◌, length, get_or, take, drop, sym, refl, ap, ◌∙◌, arith, take-append-drop, take-take, drop-drop, ltb-false, le-ltb, eq-eqb, eqb-true}
 use lib.Seq.{set-get_or}
 use Rattle.base.specs.Choice.{choose}
 use Rattle.sessions.specs.Batch.{known, fits, finish_all, after_batch, receiving_session, receive}

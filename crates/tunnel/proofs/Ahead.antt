@@ -46,7 +46,6 @@ use Rattle.tunnel.specs.declared.answer.Answer.TheVariants.{NoAnswer, Initiation
 use Rattle.tunnel.specs.declared.control.Control.{Control}
 use Rattle.tunnel.specs.declared.control.Out.{Out}
 use Rattle.tunnel.specs.declared.event.Event.TheVariants.{SendHandshakeInitiation}
-use Rattle.tunnel.specs.declared.event.Event.{Event}
 use Rattle.tunnel.specs.declared.handshake.Handshake.{Handshake}
 use Rattle.tunnel.specs.declared.handshake.HandshakeState.TheVariants.{InitSent}
 use Rattle.tunnel.specs.declared.tunnel.Answered.{Answered}

@@ -50,13 +50,10 @@ use Rattle.base.proofs.Choice.{known_choice}
 use Rattle.tunnel.specs.Control.{poll_event}
 use Rattle.tunnel.specs.declared.answer.Answer.TheVariants.{Done}
 use Rattle.base.proofs.Zeros.{length_zeros}
-use Rattle.sessions.specs.Store.{whole}
 use Rattle.tunnel.specs.Arguments.{opening_outcome, initiation_outcome, bad_outcome, creation_number}
 use Rattle.tunnel.specs.HandleHandshake.{handle_handshake_response}
 use Rattle.tunnel.specs.Tunnel.{gate, refused, Called, timed_turn, timed_batch, call_new, call_start, call_restart, call_send, call_receive, call_look, call_initiation, call_response, call_cookie, call_timeout, call_settle, call_event, call_deadline, call_missing}
 use Rattle.tunnel.proofs.SoundWaking.{timeout_sound, settle_sound}
-use Rattle.sessions.specs.Batch.{receive}
-use Rattle.tunnel.specs.Encapsulate.{send}
 
 -- the ring of events
 pub queue_law : QueueOfNewest

@@ -10,14 +10,13 @@ use borrow.Author.Tests.{lt-leb}
 use Rattle.base.proofs.Choice.{of_choice, known_choice}
 use Rattle.base.specs.Choice.{choose}
 use Rattle.sessions.specs.Cases.{case_time, case_role, of_found, of_reserved}
-use Rattle.sessions.specs.Session.{due_by, least, rekey_timeout}
+use Rattle.sessions.specs.Session.{due_by, rekey_timeout}
 use Rattle.sessions.specs.Sessions.{expire, next_index}
 use Rattle.sessions.specs.declared.session.Role.TheVariants.{Initiator, Responder}
 use Rattle.sessions.specs.declared.session.Role.{Role}
 use Rattle.sessions.specs.declared.session.Session.{Session}
 use Rattle.sessions.specs.declared.session.Time.TheVariants.{Never, At}
 use Rattle.sessions.specs.declared.session.Time.{Time}
-use Rattle.sessions.specs.declared.sessions.Expired.{Expired}
 use Rattle.tunnel.proofs.Expired.{waits_both, first_same, expired_waits}
 use Rattle.tunnel.proofs.Stores.{wake_whole}
 use Rattle.tunnel.specs.Cases.{case_state, case_interval, of_datagram}

@@ -1,9 +1,9 @@
 -- The theorems of the laws that src/lib.rt ties: what another crate may cite of the window's proofs.
 -- Assumes nothing.
-use Rattle.std.proofs.Common.{◌≡◌, ℕ, ◌+◌, ◌-◌, ◌<◌, ◌≤◌, false, eqb, List, [], sym, refl, ap, ◌∙◌, arith}
+use Rattle.std.proofs.Common.{◌≡◌, ℕ, ◌+◌, ◌-◌, ◌<◌, ◌≤◌, false, eqb, List, [], sym, refl, ◌∙◌, arith}
 use Rattle.base.specs.Choice.{choose}
 use Rattle.base.proofs.Choice.{yes_eq, no_eq}
-use Rattle.window.specs.Window.{limit, will_accept, skipped_by}
+use Rattle.window.specs.Window.{limit, skipped_by}
 use Rattle.window.specs.History.{member, expected, judged, skipped_after, Skips, Represents, grown, verdict, skipped, committed, WindowLaw, JudgedLaw, StandingLaw}
 use Rattle.window.proofs.History.{judged_zero, judged_only, represents_verdict, represents_grown, represents_fresh, represents_commit}
 use Rattle.base.specs.Lists.{zeros}

@@ -1,5 +1,5 @@
 -- The anti-replay window of src/replay.rs as the plain rule: 128 words of 64 bits hold one bit for each of the 8,192 counters below `next`.
-use Rattle.std.specs.Prelude.{◌≡◌, ℕ, zero, suc, ◌+◌, ◌-◌, ◌/◌, ◌%◌, ◌^◌, ◌≤◌, max, Bool, true, List, length, set, ◌==◌, bit_and, bit_or, nat_le, nat_lt, slice_index, slice_set}
+use Rattle.std.specs.Prelude.{◌≡◌, ℕ, zero, suc, ◌+◌, ◌-◌, ◌/◌, ◌%◌, ◌^◌, ◌≤◌, max, Bool, true, List, length, ◌==◌, bit_and, bit_or, nat_le, nat_lt, slice_index, slice_set}
 use Rattle.base.specs.Bits.{bit}
 use Rattle.base.specs.Choice.{choose}
 use Rattle.base.specs.Lists.{zeros}

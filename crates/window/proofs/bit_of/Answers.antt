@@ -1,5 +1,4 @@
 use lib.Bits.{and_mask}
-use Rattle.std.proofs.Common.{rules}
 use Rattle.window.proofs.bit_of.Goals as goal
 
 pub returns : goal.returns

@@ -1,5 +1,5 @@
-use Rattle.std.proofs.Common.{◌-◌, rules}
-use Rattle.base.proofs.Zeros.{Zeroed, zero_begins, zero_more, zero_ends}
+use Rattle.std.proofs.Common.{rules}
+use Rattle.base.proofs.Zeros.{zero_begins, zero_more, zero_ends}
 use Rattle.window.proofs.clear_all.Goals as goal
 
 pub loop-k-init : goal.loop-k-init

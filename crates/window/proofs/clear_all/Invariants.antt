@@ -1,5 +1,5 @@
-use Rattle.std.proofs.Common.{◌-◌, rules}
-use Rattle.base.proofs.Zeros.{Zeroed, zero_begins, zero_more, zero_ends}
+use Rattle.std.proofs.Common.{◌-◌}
+use Rattle.base.proofs.Zeros.{Zeroed}
 use Rattle.window.proofs.clear_all.Given as goal
 
 abbrev pub invariant-loop-k : goal.invariant-loop-k

@@ -1,5 +1,5 @@
-use Rattle.std.proofs.Common.{◌-◌, rules}
-use Rattle.window.proofs.Steps.{Run, run_begins, run_bit, run_ends}
+use Rattle.std.proofs.Common.{rules}
+use Rattle.window.proofs.Steps.{run_begins, run_bit, run_ends}
 use Rattle.window.proofs.clear_bits.Goals as goal
 
 pub loop-i-init : goal.loop-i-init

@@ -1,5 +1,5 @@
-use Rattle.std.proofs.Common.{◌≡◌, ◌-◌, ◌%◌, rules}
-use Rattle.window.proofs.Steps.{Run, run_begins, run_word}
+use Rattle.std.proofs.Common.{rules}
+use Rattle.window.proofs.Steps.{run_begins, run_word}
 use Rattle.window.proofs.clear_words.Goals as goal
 
 pub loop-i-init : goal.loop-i-init

@@ -1,5 +1,5 @@
-use Rattle.std.proofs.Common.{◌≡◌, ◌-◌, ◌%◌, rules}
-use Rattle.window.proofs.Steps.{Run, run_begins, run_word}
+use Rattle.std.proofs.Common.{◌≡◌, ◌-◌, ◌%◌}
+use Rattle.window.proofs.Steps.{Run}
 use Rattle.window.proofs.clear_words.Given as goal
 
 abbrev pub invariant-loop-i : goal.invariant-loop-i

@@ -1,4 +1,4 @@
-use Rattle.std.proofs.Common.{◌/◌, ◌∙◌, arith, rules}
+use Rattle.std.proofs.Common.{◌/◌, ◌∙◌, arith}
 use lib.Bits.{and_mask}
 use Rattle.window.proofs.word_of.Goals as goal
 

@@ -1,8 +1,5 @@
 use borrow.Author.Rules.{rules}
-use Prim.Native.Nat.{◌-◌}
-use lib.ListN.{length}
-use Rattle.callout_log.specs.Record.{is_time}
-use Rattle.callout_log.proofs.Checks.{Tested, test_begins, test_fails, test_ends, time_more, time_late}
+use Rattle.callout_log.proofs.Checks.{test_begins, test_fails, test_ends, time_more, time_late}
 use Rattle.callout_log.proofs.append.are_times.Goals as goal
 
 pub loop-i-init : goal.loop-i-init

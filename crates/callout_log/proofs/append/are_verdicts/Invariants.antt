@@ -1,9 +1,7 @@
-use borrow.Author.Rules.{rules}
-use native.Mathlib.Omega.{arith}
 use Prim.Native.Nat.{◌-◌}
 use lib.ListN.{length}
 use Rattle.callout_log.specs.Record.{is_verdict}
-use Rattle.callout_log.proofs.Checks.{Tested, test_begins, test_more, test_fails, test_ends}
+use Rattle.callout_log.proofs.Checks.{Tested}
 use Rattle.callout_log.proofs.append.are_verdicts.Given as goal
 
 abbrev pub invariant-loop-i : goal.invariant-loop-i

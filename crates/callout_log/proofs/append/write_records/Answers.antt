@@ -1,9 +1,7 @@
 use borrow.Author.Rules.{rules}
 use mathlib.Core.Path.{refl}
-use Prim.Native.Nat.{◌-◌}
-use lib.ListN.{length}
-use Rattle.callout_log.specs.Append.{report_at, reports_in}
-use Rattle.callout_log.proofs.Writing.{Writes, write_begins, write_more, write_ends}
+use Rattle.callout_log.specs.Append.{report_at}
+use Rattle.callout_log.proofs.Writing.{write_begins, write_more, write_ends}
 use Rattle.callout_log.proofs.append.write_records.Goals as goal
 
 pub loop-i-init : goal.loop-i-init

@@ -1,9 +1,7 @@
-use borrow.Author.Rules.{rules}
-use mathlib.Core.Path.{refl}
 use Prim.Native.Nat.{◌-◌}
 use lib.ListN.{length}
-use Rattle.callout_log.specs.Append.{report_at, reports_in}
-use Rattle.callout_log.proofs.Writing.{Writes, write_begins, write_more, write_ends}
+use Rattle.callout_log.specs.Append.{reports_in}
+use Rattle.callout_log.proofs.Writing.{Writes}
 use Rattle.callout_log.proofs.append.write_records.Given as goal
 
 abbrev pub invariant-loop-i : goal.invariant-loop-i

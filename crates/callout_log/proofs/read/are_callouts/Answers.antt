@@ -1,5 +1,5 @@
 use borrow.Author.Rules.{rules}
-use Rattle.callout_log.proofs.Walking.{Checked, check_begins, check_eight, check_back, check_room, check_more, check_fails, check_ends}
+use Rattle.callout_log.proofs.Walking.{check_begins, check_eight, check_back, check_room, check_more, check_fails, check_ends}
 use Rattle.callout_log.proofs.read.are_callouts.Goals as goal
 
 pub loop-end-init : goal.loop-end-init

@@ -1,5 +1,4 @@
-use borrow.Author.Rules.{rules}
-use Rattle.callout_log.proofs.Walking.{Checked, check_begins, check_eight, check_back, check_room, check_more, check_fails, check_ends}
+use Rattle.callout_log.proofs.Walking.{Checked}
 use Rattle.callout_log.proofs.read.are_callouts.Given as goal
 
 abbrev pub invariant-loop-end : goal.invariant-loop-end

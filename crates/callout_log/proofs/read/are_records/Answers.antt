@@ -1,5 +1,5 @@
 use borrow.Author.Rules.{rules}
-use Rattle.callout_log.proofs.Walking.{Recorded, record_begins, record_more, record_fails, record_ends}
+use Rattle.callout_log.proofs.Walking.{record_begins, record_more, record_fails, record_ends}
 use Rattle.callout_log.proofs.read.are_records.Goals as goal
 
 pub loop-left-init : goal.loop-left-init

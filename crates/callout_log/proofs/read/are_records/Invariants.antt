@@ -1,5 +1,4 @@
-use borrow.Author.Rules.{rules}
-use Rattle.callout_log.proofs.Walking.{Recorded, record_begins, record_more, record_fails, record_ends}
+use Rattle.callout_log.proofs.Walking.{Recorded}
 use Rattle.callout_log.proofs.read.are_records.Given as goal
 
 abbrev pub invariant-loop-left : goal.invariant-loop-left

@@ -1,7 +1,7 @@
 use borrow.Author.Rules.{rules}
 use mathlib.Core.Path.{refl}
 use native.Mathlib.Omega.{arith}
-use Rattle.callout_log.proofs.Filling.{Filling, fill_begins, fill_ends, fill_eight, fill_count, fill_back, fill_inside, fill_times, fill_counters, fill_session_ids, fill_local_indices, fill_verdicts, fill_exactly, fill_more}
+use Rattle.callout_log.proofs.Filling.{fill_begins, fill_ends, fill_eight, fill_count, fill_back, fill_inside, fill_times, fill_counters, fill_session_ids, fill_local_indices, fill_verdicts, fill_exactly, fill_more}
 use Rattle.callout_log.proofs.read.read_callouts.Goals as goal
 
 pub loop-end-init : goal.loop-end-init

@@ -1,7 +1,6 @@
 use borrow.Author.Rules.{rules}
 use mathlib.Core.Path.{refl}
-use Prim.Native.Nat.{◌-◌}
-use Rattle.callout_log.proofs.Copies.{Copying, copying_begins, copying_more, copying_ends}
+use Rattle.callout_log.proofs.Copies.{copying_begins, copying_more, copying_ends}
 use Rattle.callout_log.proofs.read.read_records.Goals as goal
 
 pub loop-i-init : goal.loop-i-init

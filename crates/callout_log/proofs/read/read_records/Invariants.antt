@@ -1,7 +1,5 @@
-use borrow.Author.Rules.{rules}
-use mathlib.Core.Path.{refl}
 use Prim.Native.Nat.{◌-◌}
-use Rattle.callout_log.proofs.Copies.{Copying, copying_begins, copying_more, copying_ends}
+use Rattle.callout_log.proofs.Copies.{Copying}
 use Rattle.callout_log.proofs.read.read_records.Given as goal
 
 abbrev pub invariant-loop-i : goal.invariant-loop-i

@@ -1,5 +1,5 @@
 use borrow.Author.Rules.{rules}
-use Rattle.callout_log.proofs.Walking.{Walking, walk_begins, walk_back, walk_more, walk_broken, walk_ends}
+use Rattle.callout_log.proofs.Walking.{walk_begins, walk_back, walk_more, walk_broken, walk_ends}
 use Rattle.callout_log.proofs.read.walk.Goals as goal
 
 pub loop-end-init : goal.loop-end-init

@@ -1,7 +1,5 @@
 use borrow.Author.Rules.{rules}
-use lib.ListN.{length}
-use Prim.Native.Nat.{◌-◌}
-use Rattle.callout_log.proofs.Viewing.{CopiedTo, copy_begins, copy_more, copy_ends}
+use Rattle.callout_log.proofs.Viewing.{copy_begins, copy_more, copy_ends}
 use Rattle.callout_log.proofs.store.copy.Goals as goal
 
 pub loop-i-init : goal.loop-i-init

@@ -1,7 +1,6 @@
-use borrow.Author.Rules.{rules}
 use lib.ListN.{length}
 use Prim.Native.Nat.{◌-◌}
-use Rattle.callout_log.proofs.Viewing.{CopiedTo, copy_begins, copy_more, copy_ends}
+use Rattle.callout_log.proofs.Viewing.{CopiedTo}
 use Rattle.callout_log.proofs.store.copy.Given as goal
 
 abbrev pub invariant-loop-i : goal.invariant-loop-i

@@ -1,7 +1,5 @@
 use borrow.Author.Rules.{rules}
-use lib.ListN.{length}
-use Prim.Native.Nat.{◌-◌}
-use Rattle.base.proofs.Zeros.{zero_ends, Zeroed, zero_begins, zero_more}
+use Rattle.base.proofs.Zeros.{zero_ends, zero_begins, zero_more}
 use Rattle.callout_log.proofs.store.zero_u32.Goals as goal
 
 pub loop-i-init : goal.loop-i-init

@@ -1,7 +1,6 @@
-use borrow.Author.Rules.{rules}
 use lib.ListN.{length}
 use Prim.Native.Nat.{◌-◌}
-use Rattle.base.proofs.Zeros.{zero_ends, Zeroed, zero_begins, zero_more}
+use Rattle.base.proofs.Zeros.{Zeroed}
 use Rattle.callout_log.proofs.store.zero_u32.Given as goal
 
 abbrev pub invariant-loop-i : goal.invariant-loop-i

@@ -1,5 +1,5 @@
 use borrow.Author.Rules.{rules}
-use Rattle.callout_log.proofs.Viewing.{HidingUpTo, callouts_begin, callouts_eight, callouts_back, callouts_room, callouts_more, callouts_end}
+use Rattle.callout_log.proofs.Viewing.{callouts_begin, callouts_eight, callouts_back, callouts_room, callouts_more, callouts_end}
 use Rattle.callout_log.proofs.view.hide_callouts.Goals as goal
 
 pub loop-end-init : goal.loop-end-init

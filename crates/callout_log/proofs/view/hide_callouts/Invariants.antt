@@ -1,5 +1,4 @@
-use borrow.Author.Rules.{rules}
-use Rattle.callout_log.proofs.Viewing.{HidingUpTo, callouts_begin, callouts_eight, callouts_back, callouts_room, callouts_more, callouts_end}
+use Rattle.callout_log.proofs.Viewing.{HidingUpTo}
 use Rattle.callout_log.proofs.view.hide_callouts.Given as goal
 
 abbrev pub invariant-loop-end : goal.invariant-loop-end

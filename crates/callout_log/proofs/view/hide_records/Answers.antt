@@ -1,5 +1,5 @@
 use borrow.Author.Rules.{rules}
-use Rattle.callout_log.proofs.Viewing.{Hiding, hide_begins, hide_more, hide_ends}
+use Rattle.callout_log.proofs.Viewing.{hide_begins, hide_more, hide_ends}
 use Rattle.callout_log.proofs.view.hide_records.Goals as goal
 
 pub loop-left-init : goal.loop-left-init

@@ -1,5 +1,4 @@
-use borrow.Author.Rules.{rules}
-use Rattle.callout_log.proofs.Viewing.{Hiding, hide_begins, hide_more, hide_ends}
+use Rattle.callout_log.proofs.Viewing.{Hiding}
 use Rattle.callout_log.proofs.view.hide_records.Given as goal
 
 abbrev pub invariant-loop-left : goal.invariant-loop-left

@@ -1,4 +1,3 @@
-use borrow.Author.Rules.{rules}
 use Rattle.endian.proofs.LittleEndian.{joined_bytes}
 use Rattle.endian.proofs.little_endian.joined.Goals as goal
 

@@ -1,4 +1,3 @@
-use borrow.Author.Rules.{rules}
 use native.Mathlib.Omega.{arith}
 use Rattle.base.proofs.Parts.{part_length}
 use Rattle.script.proofs.log_line.append_reports.Goals as goal

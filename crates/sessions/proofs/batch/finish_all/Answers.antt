@@ -1,5 +1,5 @@
-use Rattle.std.proofs.Common.{◌-◌, length, rules}
-use Rattle.sessions.proofs.Batches.{Going, batch_begins, batch_ends, batch_turn}
+use Rattle.std.proofs.Common.{rules}
+use Rattle.sessions.proofs.Batches.{batch_begins, batch_ends, batch_turn}
 use Rattle.sessions.proofs.batch.finish_all.Goals as goal
 
 pub loop-i-init : goal.loop-i-init

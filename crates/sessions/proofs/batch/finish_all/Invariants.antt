@@ -1,5 +1,5 @@
-use Rattle.std.proofs.Common.{◌-◌, length, rules}
-use Rattle.sessions.proofs.Batches.{Going, batch_begins, batch_ends, batch_turn}
+use Rattle.std.proofs.Common.{◌-◌, length}
+use Rattle.sessions.proofs.Batches.{Going}
 use Rattle.sessions.proofs.batch.finish_all.Given as goal
 
 abbrev pub invariant-loop-i : goal.invariant-loop-i

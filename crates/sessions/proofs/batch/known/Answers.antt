@@ -1,6 +1,4 @@
-use Rattle.std.proofs.Common.{◌≡◌, ◌-◌, ◌≤◌, false, length, drop, rules}
-use Rattle.base.specs.Choice.{choose}
-use Rattle.sessions.specs.Batch.{known}
+use Rattle.std.proofs.Common.{rules}
 use Rattle.sessions.proofs.Batches.{all_known, known_begun, known_more}
 use Rattle.sessions.proofs.batch.known.Goals as goal
 

@@ -1,7 +1,6 @@
-use Rattle.std.proofs.Common.{◌≡◌, ◌-◌, ◌≤◌, false, length, drop, rules}
+use Rattle.std.proofs.Common.{◌≡◌, ◌-◌, ◌≤◌, false, length, drop}
 use Rattle.base.specs.Choice.{choose}
 use Rattle.sessions.specs.Batch.{known}
-use Rattle.sessions.proofs.Batches.{all_known, known_begun, known_more}
 use Rattle.sessions.proofs.batch.known.Given as goal
 
 abbrev pub invariant-loop-i : goal.invariant-loop-i

@@ -1,6 +1,6 @@
-use Rattle.std.proofs.Common.{◌-◌, rules}
+use Rattle.std.proofs.Common.{rules}
 use Rattle.sessions.specs.Session.{empty_session, new_session}
-use Rattle.sessions.proofs.Loops.{SlotsYet, slots_begin, slots_more, slots_end, slot_bad}
+use Rattle.sessions.proofs.Loops.{slots_begin, slots_more, slots_end, slot_bad}
 use Rattle.sessions.proofs.damage.sessions_hold.Goals as goal
 
 pub loop-slot-init : goal.loop-slot-init

@@ -1,6 +1,5 @@
-use Rattle.std.proofs.Common.{◌-◌, rules}
-use Rattle.sessions.specs.Session.{empty_session, new_session}
-use Rattle.sessions.proofs.Loops.{SlotsYet, slots_begin, slots_more, slots_end, slot_bad}
+use Rattle.std.proofs.Common.{◌-◌}
+use Rattle.sessions.proofs.Loops.{SlotsYet}
 use Rattle.sessions.proofs.damage.sessions_hold.Given as goal
 
 abbrev pub invariant-loop-slot : goal.invariant-loop-slot

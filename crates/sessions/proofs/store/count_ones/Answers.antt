@@ -1,5 +1,5 @@
-use Rattle.std.proofs.Common.{◌-◌, length, rules}
-use Rattle.sessions.proofs.Ones.{Ones, ones_begin, ones_end, ones_more}
+use Rattle.std.proofs.Common.{rules}
+use Rattle.sessions.proofs.Ones.{ones_begin, ones_end, ones_more}
 use Rattle.sessions.proofs.store.count_ones.Goals as goal
 
 pub loop-i-init : goal.loop-i-init

@@ -1,5 +1,5 @@
-use Rattle.std.proofs.Common.{◌-◌, length, rules}
-use Rattle.sessions.proofs.Ones.{Ones, ones_begin, ones_end, ones_more}
+use Rattle.std.proofs.Common.{◌-◌, length}
+use Rattle.sessions.proofs.Ones.{Ones}
 use Rattle.sessions.proofs.store.count_ones.Given as goal
 
 abbrev pub invariant-loop-i : goal.invariant-loop-i

@@ -1,5 +1,5 @@
-use Rattle.std.proofs.Common.{◌-◌, length, rules}
-use Rattle.base.proofs.Zeros.{zero_ends, Zeroed, zero_begins, zero_more}
+use Rattle.std.proofs.Common.{rules}
+use Rattle.base.proofs.Zeros.{zero_ends, zero_begins, zero_more}
 use Rattle.sessions.proofs.store.zero.Goals as goal
 
 pub loop-i-init : goal.loop-i-init

@@ -1,5 +1,5 @@
-use Rattle.std.proofs.Common.{◌-◌, length, rules}
-use Rattle.base.proofs.Zeros.{zero_ends, Zeroed, zero_begins, zero_more}
+use Rattle.std.proofs.Common.{◌-◌, length}
+use Rattle.base.proofs.Zeros.{Zeroed}
 use Rattle.sessions.proofs.store.zero.Given as goal
 
 abbrev pub invariant-loop-i : goal.invariant-loop-i

@@ -1,7 +1,5 @@
 use borrow.Author.Rules.{rules}
-use Prim.Native.Nat.{◌-◌}
-use lib.ListN.{length}
-use Rattle.text.proofs.HexReading.{Checking, checking_begins, checking_odd, checking_fails, checking_more, checking_ends}
+use Rattle.text.proofs.HexReading.{checking_begins, checking_odd, checking_fails, checking_more, checking_ends}
 use Rattle.text.proofs.hex.are_pairs.Goals as goal
 
 pub loop-i-init : goal.loop-i-init

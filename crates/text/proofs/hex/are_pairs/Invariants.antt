@@ -1,7 +1,6 @@
-use borrow.Author.Rules.{rules}
 use Prim.Native.Nat.{◌-◌}
 use lib.ListN.{length}
-use Rattle.text.proofs.HexReading.{Checking, checking_begins, checking_odd, checking_fails, checking_more, checking_ends}
+use Rattle.text.proofs.HexReading.{Checking}
 use Rattle.text.proofs.hex.are_pairs.Given as goal
 
 abbrev pub invariant-loop-i : goal.invariant-loop-i

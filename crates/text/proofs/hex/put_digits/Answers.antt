@@ -1,7 +1,5 @@
 use borrow.Author.Rules.{rules}
-use Prim.Native.Nat.{◌-◌}
-use lib.ListN.{length}
-use Rattle.text.proofs.HexWriting.{HexPutting, hex_begins, hex_more, hex_ends}
+use Rattle.text.proofs.HexWriting.{hex_begins, hex_more, hex_ends}
 use Rattle.text.proofs.hex.put_digits.Goals as goal
 
 pub loop-i-init : goal.loop-i-init

@@ -1,7 +1,6 @@
-use borrow.Author.Rules.{rules}
 use Prim.Native.Nat.{◌-◌}
 use lib.ListN.{length}
-use Rattle.text.proofs.HexWriting.{HexPutting, hex_begins, hex_more, hex_ends}
+use Rattle.text.proofs.HexWriting.{HexPutting}
 use Rattle.text.proofs.hex.put_digits.Given as goal
 
 abbrev pub invariant-loop-i : goal.invariant-loop-i

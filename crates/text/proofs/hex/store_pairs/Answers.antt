@@ -1,7 +1,5 @@
 use borrow.Author.Rules.{rules}
-use Prim.Native.Nat.{◌-◌}
-use lib.ListN.{length}
-use Rattle.text.proofs.HexReading.{Storing, storing_begins, storing_digits, storing_more, storing_ends}
+use Rattle.text.proofs.HexReading.{storing_begins, storing_digits, storing_more, storing_ends}
 use Rattle.text.proofs.hex.store_pairs.Goals as goal
 
 pub loop-i-init : goal.loop-i-init

@@ -1,7 +1,6 @@
-use borrow.Author.Rules.{rules}
 use Prim.Native.Nat.{◌-◌}
 use lib.ListN.{length}
-use Rattle.text.proofs.HexReading.{Storing, storing_begins, storing_digits, storing_more, storing_ends}
+use Rattle.text.proofs.HexReading.{Storing}
 use Rattle.text.proofs.hex.store_pairs.Given as goal
 
 abbrev pub invariant-loop-i : goal.invariant-loop-i

@@ -1,7 +1,5 @@
 use borrow.Author.Rules.{rules}
-use Prim.Native.Nat.{◌-◌}
-use lib.ListN.{length}
-use Rattle.text.proofs.Putting.{Putting, putting_begins, putting_more, putting_ends}
+use Rattle.text.proofs.Putting.{putting_begins, putting_more, putting_ends}
 use Rattle.text.proofs.text.put_text.Goals as goal
 
 pub loop-i-init : goal.loop-i-init

@@ -1,7 +1,6 @@
-use borrow.Author.Rules.{rules}
 use Prim.Native.Nat.{◌-◌}
 use lib.ListN.{length}
-use Rattle.text.proofs.Putting.{Putting, putting_begins, putting_more, putting_ends}
+use Rattle.text.proofs.Putting.{Putting}
 use Rattle.text.proofs.text.put_text.Given as goal
 
 abbrev pub invariant-loop-i : goal.invariant-loop-i

@@ -1,6 +1,5 @@
 use borrow.Author.Rules.{rules}
-use lib.ListN.{length-set}
-use Rattle.text.proofs.Digits.{Spelling, spelling_begins, spelling_more, spelling_ends, spelling_full}
+use Rattle.text.proofs.Digits.{spelling_begins, spelling_more, spelling_ends, spelling_full}
 use Rattle.text.proofs.text.spell.Goals as goal
 
 pub loop-i-init : goal.loop-i-init

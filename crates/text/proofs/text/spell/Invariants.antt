@@ -1,6 +1,4 @@
-use borrow.Author.Rules.{rules}
-use lib.ListN.{length-set}
-use Rattle.text.proofs.Digits.{Spelling, spelling_begins, spelling_more, spelling_ends, spelling_full}
+use Rattle.text.proofs.Digits.{Spelling}
 use Rattle.text.proofs.text.spell.Given as goal
 
 abbrev pub invariant-loop-i : goal.invariant-loop-i

@@ -1,9 +1,5 @@
 use borrow.Author.Rules.{rules}
 use Rattle.text.proofs.Digits.{none_read, read_begins, read_more, read_fails, read_ends}
-use mathlib.Core.Path.{◌≡◌}
-use Prim.Native.Nat.{◌-◌, ◌≤◌}
-use lib.ListN.{length, drop}
-use Rattle.text.specs.Number.{number_of, number_from}
 use Rattle.text.proofs.word.number_of.Goals as goal
 
 pub returns-then-word-eq0 : goal.returns-then-word-eq0

@@ -1,5 +1,3 @@
-use borrow.Author.Rules.{rules}
-use Rattle.text.proofs.Digits.{none_read, read_begins, read_more, read_fails, read_ends}
 use mathlib.Core.Path.{◌≡◌}
 use Prim.Native.Nat.{◌-◌, ◌≤◌}
 use lib.ListN.{length, drop}

@@ -1,5 +1,4 @@
 use lib.Bits.{and_mask}
-use borrow.Author.Rules.{rules}
 use Rattle.tunnel.proofs.ring_buffer.place_of.Goals as goal
 
 pub returns : goal.returns

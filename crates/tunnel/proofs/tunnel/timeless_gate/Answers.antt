@@ -1,4 +1,3 @@
-use borrow.Author.Rules.{rules}
 use Rattle.base.specs.Choice.{choose}
 use Rattle.tunnel.proofs.tunnel.timeless_gate.Goals as goal
 

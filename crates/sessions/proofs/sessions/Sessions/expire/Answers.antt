@@ -1,6 +1,6 @@
-use Rattle.std.proofs.Common.{◌-◌, rules}
+use Rattle.std.proofs.Common.{rules}
 use Rattle.sessions.proofs.Ways.{not_expired}
-use Rattle.sessions.proofs.Loops.{Gone, gone_begins, gone_ends, gone_more}
+use Rattle.sessions.proofs.Loops.{gone_begins, gone_ends, gone_more}
 use Rattle.sessions.proofs.sessions.Sessions.expire.Goals as goal
 
 pub returns-then-store-ne1024 : goal.returns-then-store-ne1024

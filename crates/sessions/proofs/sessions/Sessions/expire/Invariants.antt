@@ -1,6 +1,5 @@
-use Rattle.std.proofs.Common.{◌-◌, rules}
-use Rattle.sessions.proofs.Ways.{not_expired}
-use Rattle.sessions.proofs.Loops.{Gone, gone_begins, gone_ends, gone_more}
+use Rattle.std.proofs.Common.{◌-◌}
+use Rattle.sessions.proofs.Loops.{Gone}
 use Rattle.sessions.proofs.sessions.Sessions.expire.Given as goal
 
 abbrev pub invariant-loop-slot : goal.invariant-loop-slot

@@ -1,7 +1,6 @@
-use Rattle.std.proofs.Common.{◌-◌, rules}
-use Rattle.sessions.specs.Session.{empty_session, new_session}
+use Rattle.std.proofs.Common.{◌-◌}
 use Rattle.sessions.specs.Sessions.{slot_at}
-use Rattle.base.proofs.First.{NoneYet, none_begins, none_more, one_found, none_found}
+use Rattle.base.proofs.First.{NoneYet}
 use Rattle.sessions.proofs.sessions.Sessions.is_empty.Given as goal
 
 abbrev pub invariant-loop-slot : goal.invariant-loop-slot

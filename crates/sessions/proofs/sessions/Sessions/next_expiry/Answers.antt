@@ -1,5 +1,4 @@
-use Rattle.std.proofs.Common.{◌≡◌, ◌-◌, ◌≤◌, rules}
-use Rattle.sessions.specs.Sessions.{first_expiry}
+use Rattle.std.proofs.Common.{rules}
 use Rattle.sessions.proofs.Loops.{expiry_begins, expiry_ends, expiry_more}
 use Rattle.sessions.proofs.sessions.Sessions.next_expiry.Goals as goal
 

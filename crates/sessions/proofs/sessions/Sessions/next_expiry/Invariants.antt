@@ -1,6 +1,5 @@
-use Rattle.std.proofs.Common.{◌≡◌, ◌-◌, ◌≤◌, rules}
+use Rattle.std.proofs.Common.{◌≡◌, ◌-◌, ◌≤◌}
 use Rattle.sessions.specs.Sessions.{first_expiry}
-use Rattle.sessions.proofs.Loops.{expiry_begins, expiry_ends, expiry_more}
 use Rattle.sessions.proofs.sessions.Sessions.next_expiry.Given as goal
 
 abbrev pub invariant-loop-slot : goal.invariant-loop-slot

@@ -1,6 +1,5 @@
-use Rattle.std.proofs.Common.{◌-◌, rules}
-use Rattle.sessions.specs.Sessions.{expired_slot}
-use Rattle.base.proofs.First.{NoneYet, none_begins, none_more, one_found, none_found}
+use Rattle.std.proofs.Common.{rules}
+use Rattle.base.proofs.First.{none_begins, none_more, one_found, none_found}
 use Rattle.sessions.proofs.sessions.Sessions.none_expired.Goals as goal
 
 pub loop-slot-init : goal.loop-slot-init

@@ -1,6 +1,6 @@
-use Rattle.std.proofs.Common.{◌-◌, rules}
+use Rattle.std.proofs.Common.{◌-◌}
 use Rattle.sessions.specs.Sessions.{expired_slot}
-use Rattle.base.proofs.First.{NoneYet, none_begins, none_more, one_found, none_found}
+use Rattle.base.proofs.First.{NoneYet}
 use Rattle.sessions.proofs.sessions.Sessions.none_expired.Given as goal
 
 abbrev pub invariant-loop-slot : goal.invariant-loop-slot

@@ -1,6 +1,5 @@
 use Rattle.tunnel.proofs.Settling.{woke_once, woke_twice, woke_thrice}
 use borrow.Author.Rules.{rules}
-use borrow.Author.Tests.{not-true, not-false}
 use Rattle.tunnel.proofs.control.Control.settle.Goals as goal
 
 pub returns-then-not-waking_due : goal.returns-then-not-waking_due

@@ -1,7 +1,6 @@
 use mathlib.Core.Path.{◌≡◌}
 use lib.ListN.{length}
 use Rattle.tunnel.proofs.Settling.{long, wakes}
-use borrow.Author.Rules.{rules}
 use Rattle.tunnel.proofs.control.Control.wake.Goals as goal
 
 pub returns : goal.returns

@@ -2,7 +2,6 @@ use Rattle.tunnel.proofs.Framed.{open_within, open_now, open_jitter, way_turn_re
 use Rattle.tunnel.proofs.Settling.{due_is, way_unwoken}
 use Rattle.tunnel.specs.Tunnel.{call_settle}
 use borrow.Author.Rules.{rules}
-use borrow.Author.Tests.{not-true, not-false}
 use Rattle.tunnel.proofs.tunnel.Tunnel.settle.Goals as goal
 
 pub returns-then-number-ne0 : goal.returns-then-number-ne0
