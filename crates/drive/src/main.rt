@@ -1,7 +1,7 @@
 // Reads calls from standard input, one a line, and writes one line for each to standard output.
 #![tactic(auto)]
 
-ghost use Rattle.std.specs.Prelude.{◌≤◌, IfOk, length};
+ghost use Rattle.std.specs.Prelude.{◌≡◌, ◌≤◌, IfOk, OnErr, length};
 
 use script::answer::put_line;
 use script::call::call;
@@ -238,7 +238,8 @@ fn emptied<W: Write>(writer: &mut W, console: Console, out: &[u8]) -> io::Result
 
 // Reads once, and answers how many bytes came: none at the input's end.
 fn read_input<R: Read>(reader: &mut R, input: &mut [u8]) -> io::Result<usize>
-    ensures { IfOk result (λ n. n ≤ length input.new) }
+    ensures ok { IfOk result (λ n. n ≤ length input.new) }
+    ensures err { OnErr result (length input.new ≡ length input.old) }
 {
     reader.read(input)
 }

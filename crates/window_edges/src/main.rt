@@ -2,7 +2,7 @@
 // answers: `ok`; the verdict; the verdict, the next expected counter, the number of set bits and the skipped counters.
 #![tactic(auto)]
 
-ghost use Rattle.std.specs.Prelude.{◌≤◌, IfOk, length};
+ghost use Rattle.std.specs.Prelude.{◌≡◌, ◌≤◌, IfOk, OnErr, length};
 
 use std::io;
 use std::io::{Read, Write};
@@ -131,7 +131,8 @@ fn replay<W: Write>(out: &mut W, input: &[u8]) -> io::Result<()> {
 
 // Reads until the buffer is full or the input ends, and answers how many bytes came.
 fn read_full<R: Read>(input: &mut R, buffer: &mut [u8]) -> io::Result<usize>
-    ensures { IfOk result (λ n. n ≤ length buffer.new) }
+    ensures ok { IfOk result (λ n. n ≤ length buffer.new) }
+    ensures err { OnErr result (length buffer.new ≡ length buffer.old) }
 {
     let mut at = 0;
     while at < buffer.len() {
