@@ -68,7 +68,7 @@ def edited(text):
 def paged(text):
     """A page with the names between its backticks respelled."""
     text = re.sub(r"\bcrates/log(?=[/`])", "crates/callout_log", text)
-    return re.sub(r"`[^`\n]*`", lambda quoted: crate_named(spelled(quoted.group(0))), text)
+    return re.sub(r"`[^`\n]*`", lambda quoted: crate_named(coded(quoted.group(0))), text)
 
 
 def rewrite(path, change):
