@@ -22,7 +22,7 @@ use Rattle.callout_log.specs.ViewLaws.{HiddenByte, HeldSeen, IsViewed, NotViewed
 use Rattle.callout_log.specs.declared.view.Viewed.TheVariants.{No, Bytes as Copied}
 use Rattle.callout_log.proofs.Appended.{store_large, store_over, store_true}
 use Rattle.callout_log.proofs.Broken.{all_records, all_trailers, led_within, record_fails, trailer_fails}
-use Rattle.callout_log.proofs.Exact.{read as read-callouts, read_log_lem, written as written-log}
+use Rattle.callout_log.proofs.Exact.{read as read_callouts, read_log_lem, written as written_log}
 use Rattle.callout_log.proofs.Hiding.{covers}
 use Rattle.callout_log.proofs.HiddenBytes.{hidden_covered, not_hidden}
 use Rattle.callout_log.proofs.Kept.{callouts_in}
@@ -155,11 +155,11 @@ module _ (hides : Bool) (store : List ℕ) (used : ℕ) (b : Bytes store) (size 
       shown_written : Written shown used (seen_callouts hides (callouts_in log))
       shown_written =
           subst (λ (c : List (List Record)). Written shown used c) shown_callouts
-          (written-log shown used (omega (arith, shown_long)) (omega (arith, shown_long)) shown_bytes shown_trailers shown_records)
+          (written_log shown used (omega (arith, shown_long)) (omega (arith, shown_long)) shown_bytes shown_trailers shown_records)
 
       shown_reads : (l : Lists) → Room (callouts_in log) l → read_log shown used l ≡ answered (seen_callouts hides (callouts_in log)) l
       shown_reads l room =
-          read-callouts shown used (omega (arith, shown_long)) (omega (arith, shown_long)) shown_bytes shown_trailers shown_records l
+          read_callouts shown used (omega (arith, shown_long)) (omega (arith, shown_long)) shown_bytes shown_trailers shown_records l
           (subst (λ (c : List (List Record)). Room c l) (sym shown_callouts) (seen_room hides (callouts_in log) l room))
           ∙ ap (λ (c : List (List Record)). answered c l) shown_callouts
 
@@ -220,7 +220,7 @@ module _ (hides : Bool) (store : List ℕ) (used : ℕ) (b : Bytes store) (size 
               visible = visible_byte;
               rest = rest_byte;
               callouts = callouts_in log;
-              written = written-log store used size within b trailers records;
+              written = written_log store used size within b trailers records;
               log = subst (λ (v : List ℕ). Written v used (seen_callouts hides (callouts_in log))) (sym front) shown_written;
               reads = λ l room. ap (λ (v : List ℕ). read_log v used l) front ∙ shown_reads l room;
             }
@@ -231,7 +231,7 @@ module _ (hides : Bool) (store : List ℕ) (used : ℕ) (b : Bytes store) (size 
       held_seen l =
           record {
             callouts = callouts_in log;
-            written = written-log store used size within b trailers records;
+            written = written_log store used size within b trailers records;
             reads = λ room.
                 rw (store_true (length store) used size within)
                 (ap (λ (v : List ℕ). read_bytes v l) (sym shown_all) ∙ sym (read_log_lem shown used (omega (arith, shown_long)) (omega (arith, shown_long)) l) ∙ shown_reads l room);

@@ -74,9 +74,9 @@ responded = initiation 9 0 0 ∷ receive 257 0 0 (0 ∷ []) (0 ∷ []) (0 ∷ []
 
 -- a marked case
 pub data Case : Type 0 where
-  -- a window that stands at `next` with just `held` committed is given `counters`, answers `answers`, and then stands at `nextThen` with just
-  -- `heldThen` committed
-  on_window : (next : ℕ) (held counters answers : List ℕ) (nextThen : ℕ) (heldThen : List ℕ) → Case
+  -- a window that stands at `next` with just `held` committed is given `counters`, answers `answers`, and then stands at `next_then` with just
+  -- `held_then` committed
+  on_window : (next : ℕ) (held counters answers : List ℕ) (next_then : ℕ) (held_then : List ℕ) → Case
   -- on a tunnel created at time 0, after `calls`, the call `last` answers this word and these values
   on_calls : (index keepalive : ℕ) (calls : List Call) (last : Call) (word : Word) (values : List ℕ) → Case
   -- on a tunnel created at time 0, after `calls`, the keepalive timer stands at this time
@@ -84,8 +84,8 @@ pub data Case : Type 0 where
 
 -- what a case says, as a test
 unfoldable pub holds : Case → Bool
-holds (on_window next held counters answers nextThen heldThen) =
-    same (verdicts (standing next held) counters) answers and same_window (given_all (standing next held) counters) (standing nextThen heldThen)
+holds (on_window next held counters answers next_then held_then) =
+    same (verdicts (standing next held) counters) answers and same_window (given_all (standing next held) counters) (standing next_then held_then)
 holds (on_calls index keepalive calls last word values) = says (step (after (created (creation index keepalive)) calls) last).answer word values
 holds (on_timer index keepalive calls time) =
     eqb (after (created (creation index keepalive)) calls).tunnel.control.timers.time_persistent_keepalive time

@@ -1,7 +1,8 @@
 // Reads calls from standard input, one a line, and writes one line for each to standard output.
 #![tactic(auto)]
 
-ghost use Rattle.std.specs.Prelude.{◌≡◌, ◌≤◌, IfOk, OnErr, length};
+ghost use Rattle.std.specs.Io.KnownBytes.{ReadConsumes};
+ghost use Rattle.std.specs.Prelude.{◌≤◌, IfOk, length};
 
 use script::answer::put_line;
 use script::call::call;
@@ -236,10 +237,10 @@ fn emptied<W: Write>(writer: &mut W, console: Console, out: &[u8]) -> io::Result
     })
 }
 
-// Reads once, and answers how many bytes came: none at the input's end.
+// Reads once, and answers how many bytes came: none at the input's end. An error takes nothing off the input.
 fn read_input<R: Read>(reader: &mut R, input: &mut [u8]) -> io::Result<usize>
-    ensures ok { IfOk result (λ n. n ≤ length input.new) }
-    ensures err { OnErr result (length input.new ≡ length input.old) }
+    ensures bound { IfOk result (λ n. n ≤ length input.new) }
+    ensures bytes { ReadConsumes (R.remaining reader.old) (R.remaining reader.new) result input.new }
 {
     reader.read(input)
 }

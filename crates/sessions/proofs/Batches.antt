@@ -244,11 +244,11 @@ module _ (s : Sessions) (store : List ℕ) (index id now : ℕ) (counters kinds 
       unfolding receive case_found choose
       one_receives x slot start end progress after last given passed q k b d f same m =
           let part : take (end - start) (drop start store) ≡ slot_words store slot = part_is store slot start end b d in
-          let long-last : length last ≡ 128 = same ∙ ap length part ∙ slot_long store slot l (omega arith) in
+          let long_last : length last ≡ 128 = same ∙ ap length part ∙ slot_long store slot l (omega arith) in
           rw (eq-eqb (length store) 1024 l, ← e, p, ← g, q, ← k)
           (record {
             out = rw (m, f.out, part);
-            words = part_put store last slot start end long-last b d ∙ ap (put_slot store slot) (f.words ∙ rw part);
+            words = part_put store last slot start end long_last b d ∙ ap (put_slot store slot) (f.words ∙ rw part);
             list = f.list ∙ rw part;
             skip_list = f.skip_list ∙ rw part;
           })

@@ -63,10 +63,10 @@ abbrev LivingTurn : Turn → Type 0
 LivingTurn turn = Living turn.out.control
 
 -- an operation that does nothing to an expired control and does not end a living one
-module _ {A : Type 0} (controlOf : A → Control) (c : Control) where
-  unless_expired : (x y : A) → Ended (controlOf x) → (Living c → Living (controlOf y)) → Ended (controlOf (choose (expired_control c) x y))
+module _ {A : Type 0} (control_of : A → Control) (c : Control) where
+  unless_expired : (x y : A) → Ended (control_of x) → (Living c → Living (control_of y)) → Ended (control_of (choose (expired_control c) x y))
   unless_expired x y h l =
-      known_choice (λ (a : A). Ended (controlOf a)) (expired_control c) x y (λ e. h) (λ e f. absurd (l (is_living c e) f))
+      known_choice (λ (a : A). Ended (control_of a)) (expired_control c) x y (λ e. h) (λ e f. absurd (l (is_living c e) f))
 
 -- the initiation
 initiated : (c : Control) (now : ℕ) → Living (initiate c now).control

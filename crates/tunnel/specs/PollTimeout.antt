@@ -44,7 +44,7 @@ found_on_send found = case_found found Never rekey_after_time_on_send
 
 -- the time of the last packet sent, if the session that was found has reached the number of messages after which to rekey
 unfoldable pub found_after_messages : Found → ℕ → Time
-found_after_messages found lastSent = case_found found Never (λ session. choose (rekey_after_messages_reached session) (At lastSent) Never)
+found_after_messages found last_sent = case_found found Never (λ session. choose (rekey_after_messages_reached session) (At last_sent) Never)
 
 -- the rekey deadline of a session that was found and has received data
 unfoldable pub found_on_receive : Found → Time
@@ -103,9 +103,9 @@ next_deadline c = case_time (scheduled_handshake c) (unscheduled_deadline c) (λ
 
 -- a deadline, or the last update where it has elapsed before that
 unfoldable pub not_before : Time → ℕ → Time
-not_before deadline lastUpdate = case_time deadline Never (λ at. At (choose (ltb at lastUpdate) lastUpdate at))
+not_before deadline last_update = case_time deadline Never (λ at. At (choose (ltb at last_update) last_update at))
 
 -- the next deadline for waking the tunnel; while events are queued it has already passed
 unfoldable pub poll_timeout : Control → ℕ → Time
-poll_timeout c lastUpdate =
-    choose (expired_control c) Never (choose (ring_is_empty c.events) (not_before (next_deadline c) lastUpdate) (At lastUpdate))
+poll_timeout c last_update =
+    choose (expired_control c) Never (choose (ring_is_empty c.events) (not_before (next_deadline c) last_update) (At last_update))

@@ -313,7 +313,7 @@ consume_passive_keepalive t = with_received_without_reply t Never
 
 -- messages were accepted, data among them or not
 unfoldable pub tick_accepted : Timers → Bool → ℕ → Timers
-tick_accepted t hasData now = choose hasData (tick_last_data_packet_received (tick_last_packet_received t now) now) (tick_last_packet_received t now)
+tick_accepted t has_data now = choose has_data (tick_last_data_packet_received (tick_last_packet_received t now) now) (tick_last_packet_received t now)
 
 -- an initiation was answered by a response
 unfoldable pub tick_response : Timers → ℕ → Timers
@@ -325,5 +325,5 @@ tick_completed t now = cancel_scheduled_handshake (tick_last_handshake_completed
 
 -- an initiation was sent; one that replaces another in progress begins no round of attempts
 unfoldable pub tick_initiation : Timers → Bool → ℕ → Timers
-tick_initiation t inProgress now =
-    choose inProgress (tick_last_packet_sent t now) (tick_last_packet_sent (tick_last_handshake_started t now) now)
+tick_initiation t in_progress now =
+    choose in_progress (tick_last_packet_sent t now) (tick_last_packet_sent (tick_last_handshake_started t now) now)
