@@ -1,4 +1,3 @@
-pub mod Guarded
 pub mod Laws
 pub mod Table
 pub mod Through

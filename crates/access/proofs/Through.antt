@@ -7,11 +7,11 @@ use Rattle.access.specs.Rights.{allowed, log_operation}
 use Rattle.access.specs.User.{guard, send_as, receive_as, timeout_as, settle_as, event_as, deadline_as, missing_as, view_as, read_as}
 use Rattle.access.specs.Laws.{Right, ThroughLaw, Outside, OutsideStored, OutsideBatch, OutsideView, OutsideRead, OutsideLaw}
 use Rattle.access.specs.Laws.Right.{controller_reads_log, trainer_reads_log}
-use Rattle.access.proofs.Guarded.{of_through, of_outside}
+use Rattle.base.specs.Choice.{choose}
+use Rattle.error.specs.declared.Error.TheVariants.{OutsideRights}
 use Rattle.access.proofs.Table.{rights_law}
 use Rattle.callout_log.proofs.Laws.{read_seen_law}
-use Rattle.callout_log.specs.Read.{walked_number}
-use Rattle.callout_log.specs.View.{viewed_number}
+use Rattle.callout_log.specs.Log.{answer_number}
 use Rattle.tunnel.specs.Answer.{number_of}
 use Rattle.tunnel.specs.Tunnel.{refused}
 use Rattle.tunnel.specs.declared.tunnel.Tunnel.{Tunnel}
@@ -26,10 +26,12 @@ not_allowed user operation no_right = decide (allowed user operation) refl
 
 module _ {A : Type 0} (user operation : ℕ) (through turned : A) where
   let_through_lem : Right user operation → guard user operation through turned ≡ through
-  let_through_lem r = of_through (λ (x : A). x ≡ through) user operation (allowed user operation) through turned refl (rights_law.may user operation r) refl
+  unfolding guard choose
+  let_through_lem r = rw (rights_law.may user operation r) refl
 
   turned_down : (P : A → Type 0) → P turned → (Right user operation → ⊥) → P (guard user operation through turned)
-  turned_down P p n = of_outside P user operation (allowed user operation) through turned refl (not_allowed user operation n) p
+  unfolding guard choose
+  turned_down P p n = rw (not_allowed user operation n) p
 
 pub through_law : ThroughLaw
 unfolding send_as receive_as timeout_as settle_as event_as deadline_as missing_as view_as read_as
@@ -49,12 +51,12 @@ through_law =
     }
 
 -- a call that 20 turns down
-is_outside : (t : Tunnel) → Outside t (refused t 20)
+is_outside : (t : Tunnel) → Outside t (refused t OutsideRights)
 unfolding refused number_of
 is_outside t = record { number = refl; tunnel = refl }
 
 pub outside_law : OutsideLaw
-unfolding send_as receive_as timeout_as settle_as event_as deadline_as missing_as view_as read_as viewed_number walked_number
+unfolding send_as receive_as timeout_as settle_as event_as deadline_as missing_as view_as read_as answer_number
 outside_law =
     record {
       send = λ user t count now. turned_down user _ _ _ (Outside t) (is_outside t);

@@ -1,10 +1,12 @@
 -- What document 02's note 9 says of the rights, of the guarded calls and of what a trainer sees, in its own numbers.
-use Rattle.std.specs.Prelude.{◌≡◌, true, false, List, [], ℕ}
+use Rattle.std.specs.Prelude.{◌≡◌, true, false, List, [], ℕ, Result}
 use Rattle.access.specs.Rights.{allowed}
 use Rattle.access.specs.User.{send_as, receive_as, timeout_as, settle_as, event_as, deadline_as, missing_as, view_as, read_as}
+use Rattle.error.specs.declared.Error.{Error}
 use Rattle.endian.specs.LittleEndian.{Bytes}
-use Rattle.callout_log.specs.Read.{Lists, Reading, read_log, walked_number}
-use Rattle.callout_log.specs.View.{Viewing, view_log, viewed_number, read_seen}
+use Rattle.callout_log.specs.Log.{answer_number}
+use Rattle.callout_log.specs.Read.{Lists, Reading, read_log}
+use Rattle.callout_log.specs.View.{Viewing, view_log, read_seen}
 use Rattle.callout_log.specs.ViewLaws.{DifferHidden}
 use Rattle.sessions.specs.Batch.{Batched}
 use Rattle.tunnel.specs.Answer.{number_of}
@@ -49,12 +51,12 @@ pub record OutsideBatch (t : Tunnel) (came v s : List ℕ) (b : Batched Answered
 
 -- A view is turned down by 20, and the lent bytes are as they came.
 pub record OutsideView (came : List ℕ) (v : Viewing) : Type 0 where
-  pub number : viewed_number v.answer ≡ 20
+  pub number : answer_number v.answer ≡ 20
   pub bytes : v.bytes ≡ came
 
 -- A read is turned down by 20, and the lent lists are as they came.
 pub record OutsideRead (came : Lists) (r : Reading) : Type 0 where
-  pub number : walked_number r.answer ≡ 20
+  pub number : answer_number r.answer ≡ 20
   pub lists : r.lists ≡ came
 
 -- A guarded call that is in the user's rights is the unguarded one; a controller sees the log whole, a trainer with its fields hidden.
@@ -104,7 +106,7 @@ pub record Desk : Type 0 where
 
 -- what a user is given: an answer with the verdicts and skips of a batch, a view, or lists that were read
 pub data Given : Type 0 where
-  answered : Answer → (verdicts skips : List ℕ) → Given
+  answered : Result Answer Error → (verdicts skips : List ℕ) → Given
   viewed : Viewing → Given
   listed : Reading → Given
 

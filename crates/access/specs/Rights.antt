@@ -1,6 +1,12 @@
 -- The rights: which operations each kind of user has.
-use Rattle.std.specs.Prelude.{Bool, true, false, ℕ, eqb}
+use Rattle.std.specs.Prelude.{◌≡◌, Bool, true, false, ℕ, ◌<◌, eqb, Result, Ok, Err}
+use Rattle.error.specs.declared.Error.{Error}
+use Rattle.error.specs.declared.Error.TheVariants.{OutsideRights}
 use Rattle.base.specs.Choice.{choose}
+use Rattle.access.specs.declared.rights.Kind.{Kind}
+use Rattle.access.specs.declared.rights.Kind.TheVariants.{Operator, Controller, Trainer}
+use Rattle.access.specs.declared.rights.Operation.{Operation}
+use Rattle.access.specs.declared.rights.Operation.TheVariants.{Send, Receive, Wake, Settle, Event, Deadline, Missing, Log}
 
 -- the kind of user that sends, receives, wakes, settles and takes events
 abbrev pub operator : ℕ
@@ -49,6 +55,33 @@ log_operation = 7
 -- an operation that is in nobody's rights
 abbrev pub other_operation : ℕ
 other_operation = 8
+
+-- the number of a kind of user
+abbrev pub kind_number : Kind → ℕ
+kind_number Operator = operator
+kind_number Controller = controller
+kind_number Trainer = trainer
+
+-- the number of an operation
+abbrev pub operation_number : Operation → ℕ
+operation_number Send = send_operation
+operation_number Receive = receive_operation
+operation_number Wake = wake_operation
+operation_number Settle = settle_operation
+operation_number Event = event_operation
+operation_number Deadline = deadline_operation
+operation_number Missing = missing_operation
+operation_number Log = log_operation
+
+-- a number names this kind of user, or none and has no rights
+abbrev pub NamesKind : ℕ → Result Kind Error → Type 0
+NamesKind n (Ok kind) = kind_number kind ≡ n
+NamesKind n (Err error) = (error ≡ OutsideRights) × (trainer < n)
+
+-- a number names this operation, or none and is in nobody's rights
+abbrev pub NamesOperation : ℕ → Result Operation Error → Type 0
+NamesOperation n (Ok operation) = operation_number operation ≡ n
+NamesOperation n (Err error) = (error ≡ OutsideRights) × (log_operation < n)
 
 -- an operator may send, receive, wake, settle and take events
 unfoldable pub operator_may : ℕ → Bool

@@ -1,11 +1,10 @@
 -- The calls of the desk's users: 20 for an operation outside the user's rights, before anything else; else the unguarded call.
-use Rattle.std.specs.Prelude.{List, ℕ, eqb}
+use Rattle.std.specs.Prelude.{List, ℕ, eqb, Err}
 use Rattle.base.specs.Choice.{choose}
 use Rattle.access.specs.Rights.{allowed, send_operation, receive_operation, wake_operation, settle_operation, event_operation, deadline_operation, missing_operation, log_operation, trainer}
 use Rattle.callout_log.specs.Read.{Lists, Reading, reading}
 use Rattle.callout_log.specs.View.{Viewing, viewing, view_log, read_seen}
-use Rattle.callout_log.specs.declared.read.Walked.TheVariants.{No as NotWalked}
-use Rattle.callout_log.specs.declared.view.Viewed.TheVariants.{No as NotViewed}
+use Rattle.error.specs.declared.Error.TheVariants.{OutsideRights}
 use Rattle.sessions.specs.Batch.{Batched, untouched}
 use Rattle.tunnel.specs.Tunnel.{Called, refused, call_send, call_receive, call_timeout, call_settle, call_event, call_deadline, call_missing}
 use Rattle.tunnel.specs.declared.tunnel.Answered.{Answered}
@@ -18,7 +17,7 @@ module _ {A : Type 0} where
 
 -- a call without a store that 20 turns down
 abbrev pub outside : Tunnel → Answered
-outside t = refused t 20
+outside t = refused t OutsideRights
 
 -- a call with a store that 20 turns down
 abbrev pub outside_stored : Tunnel → List ℕ → Called
@@ -55,8 +54,8 @@ missing_as user t store index = guard user missing_operation (call_missing t sto
 
 -- the log copied into lent bytes: a trainer sees it with its fields hidden
 unfoldable pub view_as : (user : ℕ) → (log : List ℕ) → (used : ℕ) → (bytes : List ℕ) → Viewing
-view_as user log used bytes = guard user log_operation (view_log (eqb user trainer) log used bytes) (viewing (NotViewed 20) bytes)
+view_as user log used bytes = guard user log_operation (view_log (eqb user trainer) log used bytes) (viewing (Err OutsideRights) bytes)
 
 -- the log read into lent lists: for a trainer the reader on what he sees
 unfoldable pub read_as : (user : ℕ) → (log : List ℕ) → (used : ℕ) → Lists → Reading
-read_as user log used l = guard user log_operation (read_seen (eqb user trainer) log used l) (reading (NotWalked 20) l)
+read_as user log used l = guard user log_operation (read_seen (eqb user trainer) log used l) (reading (Err OutsideRights) l)

@@ -1,84 +1,109 @@
 // The rights: which operations each kind of user has.
+#![tactic(auto, using(base::proofs::Choice::picks), unfolding(base::specs::Choice::choose, crate::specs::Rights::allowed, crate::specs::Rights::operator_may, crate::specs::Rights::controller_may))]
+
 ghost use Rattle.std.specs.Prelude.{◌≡◌};
-ghost use Rattle.access.specs.Rights.{operator_may, controller_may, allowed};
+ghost use Rattle.access.specs.Rights.{NamesKind, NamesOperation, allowed, kind_number, operation_number};
 
-// The kind of user that sends, receives, wakes, settles and takes events.
-pub const OPERATOR: u64 = 0;
+use error::Error;
 
-// The kind that reads the deadline, the missing reports and the whole log.
-pub const CONTROLLER: u64 = 1;
-
-// The kind that reads the log with its fields hidden.
-pub const TRAINER: u64 = 2;
-
-// To grant a range of counters.
-pub const SEND: u64 = 0;
-
-// To commit a batch.
-pub const RECEIVE: u64 = 1;
-
-// To wake the tunnel.
-pub const WAKE: u64 = 2;
-
-// To make the wakings that are due.
-pub const SETTLE: u64 = 3;
-
-// To take the oldest event.
-pub const EVENT: u64 = 4;
-
-// To read the deadline.
-pub const DEADLINE: u64 = 5;
-
-// To read a missing report.
-pub const MISSING: u64 = 6;
-
-// To read the log, copied or in lists.
-pub const LOG: u64 = 7;
-
-// Whether an operator has an operation: to send, receive, wake, settle and take events.
-fn operator_may(operation: u64) -> bool
-    ensures { result ≡ operator_may operation }
-{
-    if operation == SEND {
-        return true;
-    }
-    if operation == RECEIVE {
-        return true;
-    }
-    if operation == WAKE {
-        return true;
-    }
-    if operation == SETTLE {
-        return true;
-    }
-    operation == EVENT
+// The kinds of user, each with its number.
+#[derive(Clone, Copy, PartialEq, Eq)]
+pub enum Kind {
+    // Sends, receives, wakes, settles and takes events.
+    Operator = 0,
+    // Reads the deadline, the missing reports and the whole log.
+    Controller = 1,
+    // Reads the log with its fields hidden.
+    Trainer = 2,
 }
 
-// Whether a controller has an operation: to read the deadline, the missing reports and the log.
-fn controller_may(operation: u64) -> bool
-    ensures { result ≡ controller_may operation }
-{
-    if operation == DEADLINE {
-        return true;
-    }
-    if operation == MISSING {
-        return true;
-    }
-    operation == LOG
+// What a user can ask for, each with its number.
+#[derive(Clone, Copy, PartialEq, Eq)]
+pub enum Operation {
+    // To grant a range of counters.
+    Send = 0,
+    // To commit a batch.
+    Receive = 1,
+    // To wake the tunnel.
+    Wake = 2,
+    // To make the wakings that are due.
+    Settle = 3,
+    // To take the oldest event.
+    Event = 4,
+    // To read the deadline.
+    Deadline = 5,
+    // To read a missing report.
+    Missing = 6,
+    // To read the log, copied or in lists.
+    Log = 7,
 }
 
-// Whether an operation is in the rights of a kind of user. A trainer reads the log; an unknown kind has no rights.
+impl TryFrom<u64> for Kind {
+    type Error = Error;
+
+    ghost try_from_gives = { NamesKind };
+
+    // The kind of user with a number; an unknown one has no rights.
+    fn try_from(number: u64) -> Result<Kind, Error> {
+        match number {
+            0 => Ok(Kind::Operator),
+            1 => Ok(Kind::Controller),
+            2 => Ok(Kind::Trainer),
+            _ => Err(Error::OutsideRights),
+        }
+    }
+}
+
+impl TryFrom<u64> for Operation {
+    type Error = Error;
+
+    ghost try_from_gives = { NamesOperation };
+
+    // The operation with a number; an unknown one is in nobody's rights.
+    fn try_from(number: u64) -> Result<Operation, Error> {
+        match number {
+            0 => Ok(Operation::Send),
+            1 => Ok(Operation::Receive),
+            2 => Ok(Operation::Wake),
+            3 => Ok(Operation::Settle),
+            4 => Ok(Operation::Event),
+            5 => Ok(Operation::Deadline),
+            6 => Ok(Operation::Missing),
+            7 => Ok(Operation::Log),
+            _ => Err(Error::OutsideRights),
+        }
+    }
+}
+
+impl Kind {
+    // Whether an operation is in this kind's rights.
+    fn may(self, operation: Operation) -> bool
+        ensures { result ≡ allowed (kind_number self) (operation_number operation) }
+    {
+        match self {
+            Kind::Operator => matches!(
+                operation,
+                Operation::Send
+                    | Operation::Receive
+                    | Operation::Wake
+                    | Operation::Settle
+                    | Operation::Event
+            ),
+            Kind::Controller => matches!(
+                operation,
+                Operation::Deadline | Operation::Missing | Operation::Log
+            ),
+            Kind::Trainer => operation == Operation::Log,
+        }
+    }
+}
+
+// Whether an operation is in the rights of a kind of user: none is in those of an unknown kind, and an unknown operation is in nobody's.
 pub fn allowed(user: u64, operation: u64) -> bool
     ensures { result ≡ allowed user operation }
 {
-    if user == OPERATOR {
-        return operator_may(operation);
+    match (Kind::try_from(user), Operation::try_from(operation)) {
+        (Ok(kind), Ok(operation)) => kind.may(operation),
+        _ => false,
     }
-    if user == CONTROLLER {
-        return controller_may(operation);
-    }
-    if user == TRAINER {
-        return operation == LOG;
-    }
-    false
 }

@@ -1,5 +1,6 @@
 // A day of traffic: rounds of two minutes, each with twelve bursts of data in both directions and a new session at its end.
-use crate::begin::{PEER, weight};
+use crate::begin::{INDEX, PEER, weight};
+use crate::lists::Lists;
 use tunnel::tunnel::{Answered, Tunnel};
 
 // The time from one burst to the next.
@@ -22,209 +23,71 @@ struct Day {
 }
 
 impl Day {
-    // The day after a call.
-    fn after(self, answered: Answered) -> Day {
-        let tunnel = answered.tunnel;
-        let answer = answered.answer;
-        Day {
-            tunnel,
-            sum: std::num::wrapping_add_u64(self.sum, weight(answer)),
-            ..self
-        }
+    // Takes the tunnel back from a call.
+    fn take(&mut self, answered: Answered) {
+        self.tunnel = answered.tunnel;
+        self.sum = self.sum.wrapping_add(weight(answered.answer));
     }
 
-    // The day at a later time.
-    fn later(self, time: u64) -> Day {
-        Day {
-            now: std::num::wrapping_add_u64(self.now, time),
-            ..self
-        }
-    }
-
-    // The day with the local index and the id of the session to come.
-    fn next_session(self) -> Day {
-        Day {
-            index: 256 + std::num::wrapping_add_u32(self.index, 1) % 256,
-            id: std::num::wrapping_add_u64(self.id, 1),
-            ..self
-        }
-    }
-
-    // Data is sent.
-    fn send(self) -> Day {
-        let send = self.tunnel.send(64, self.now);
-        self.after(send)
-    }
-
-    // Data is looked at and received.
-    fn receive(
-        self,
-        store: &mut [u64],
-        counters: &[u64],
-        kinds: &[u8],
-        verdicts: &mut [u8],
-        skips: &mut [u64],
-        first: u64,
-    ) -> Day {
-        let look = self.tunnel.look(store, self.index, first, self.now);
-        let looked = self.after(look);
-        let batch = looked.tunnel.receive(
-            store,
-            looked.index,
-            looked.id,
-            looked.now,
-            counters,
-            kinds,
-            verdicts,
-            skips,
-        );
-        looked.after(batch)
+    // Time passes.
+    fn wait(&mut self, time: u64) {
+        self.now = self.now.wrapping_add(time);
     }
 
     // The tunnel is woken, an event is taken and the deadline asked for.
-    fn wake(self, store: &mut [u64]) -> Day {
-        let waking = self.tunnel.handle_timeout(store, JITTER, self.now);
-        let woken = self.after(waking);
-        let event = woken.tunnel.poll_event();
-        let polled = woken.after(event);
-        let deadline = polled.tunnel.poll_timeout();
-        polled.after(deadline)
+    fn wake(&mut self, store: &mut [u64]) {
+        self.take(self.tunnel.handle_timeout(store, JITTER, self.now));
+        self.take(self.tunnel.poll_event());
+        self.take(self.tunnel.poll_timeout());
     }
 
-    // A response is received.
-    fn respond(self, store: &mut [u64]) -> Day {
-        let response = self
-            .tunnel
-            .handle_handshake_response(store, self.index, PEER, 0, self.now);
-        self.after(response)
+    // A burst: data is looked at, received and sent, and the tunnel is woken.
+    fn burst(&mut self, lists: &mut Lists, first: u64, counters: &[u64]) {
+        self.take(self.tunnel.look(lists.store, self.index, first, self.now));
+        self.take(lists.receive(self.tunnel, self.index, self.id, self.now, counters));
+        self.take(self.tunnel.send(64, self.now));
+        self.wake(lists.store);
+        self.wait(PAUSE);
     }
 
-    // Data in both directions and a waking.
-    fn exchange(
-        self,
-        store: &mut [u64],
-        counters: &[u64],
-        kinds: &[u8],
-        verdicts: &mut [u8],
-        skips: &mut [u64],
-        first: u64,
-    ) -> Day {
-        self.receive(store, counters, kinds, verdicts, skips, first)
-            .send()
-            .wake(store)
-            .later(PAUSE)
+    // The handshake of the next session: the waking that schedules it, the one that starts it, and the response.
+    fn rekey(&mut self, store: &mut [u64]) {
+        self.wake(store);
+        self.wait(JITTER);
+        self.index = 256 + self.index.wrapping_add(1) % 256;
+        self.id = self.id.wrapping_add(1);
+        self.wake(store);
+        self.wait(TRIP);
+        self.take(
+            self.tunnel
+                .handle_handshake_response(store, self.index, PEER, 0, self.now),
+        );
     }
 
-    // The burst that begins at this place of the counters.
-    fn burst(
-        self,
-        store: &mut [u64],
-        counters: &[u64],
-        kinds: &[u8],
-        verdicts: &mut [u8],
-        skips: &mut [u64],
-        start: usize,
-    ) -> Day {
-        let end = std::num::wrapping_add_usize(start, 64);
-        if start > end {
-            return self;
+    // The bursts of a session, with the messages of the first 768 counters, and the handshake of the next.
+    fn round(&mut self, counters: &[u64], lists: &mut Lists) {
+        for start in (0..768).step_by(64) {
+            if let Some(burst) = counters.get(start..start + 64) {
+                self.burst(lists, start as u64, burst);
+            }
         }
-        if end > counters.len() {
-            return self;
-        }
-        self.exchange(
-            store,
-            &counters[start..end],
-            kinds,
-            verdicts,
-            skips,
-            start as u64,
-        )
-    }
-
-    // The bursts of a session.
-    fn bursts(
-        mut self,
-        store: &mut [u64],
-        counters: &[u64],
-        kinds: &[u8],
-        verdicts: &mut [u8],
-        skips: &mut [u64],
-    ) -> Day {
-        let mut start = 0;
-        while start < 768 {
-            self = self.burst(store, counters, kinds, verdicts, skips, start);
-            start = start + 64;
-        }
-        self
-    }
-
-    // The waking that schedules the next session's handshake, and the one that starts it.
-    fn initiate(self, store: &mut [u64]) -> Day {
-        self.wake(store).later(JITTER).next_session().wake(store)
-    }
-
-    // The handshake of the next session.
-    fn rekey(self, store: &mut [u64]) -> Day {
-        self.initiate(store).later(TRIP).respond(store)
-    }
-
-    // The bursts of a session and the handshake of the next.
-    fn round(
-        self,
-        store: &mut [u64],
-        counters: &[u64],
-        kinds: &[u8],
-        verdicts: &mut [u8],
-        skips: &mut [u64],
-    ) -> Day {
-        self.bursts(store, counters, kinds, verdicts, skips)
-            .rekey(store)
-    }
-
-    // Rounds, each with the messages of the first 768 counters.
-    fn rounds(
-        mut self,
-        store: &mut [u64],
-        counters: &[u64],
-        kinds: &[u8],
-        verdicts: &mut [u8],
-        skips: &mut [u64],
-        turns: usize,
-    ) -> Day {
-        let mut i = 0;
-        while i < turns {
-            self = self.round(store, counters, kinds, verdicts, skips);
-            i = i + 1;
-        }
-        self
-    }
-
-    // The tunnel at the day's end.
-    fn ended(self) -> Tunnel {
-        let mut tunnel = self.tunnel;
-        tunnel.greatest = std::num::wrapping_add_u64(self.now, self.sum % 2);
-        tunnel
+        self.rekey(lists.store);
     }
 }
 
 // The tunnel after so many rounds.
-pub fn rounds(
-    tunnel: Tunnel,
-    store: &mut [u64],
-    counters: &[u64],
-    kinds: &[u8],
-    verdicts: &mut [u8],
-    skips: &mut [u64],
-    turns: usize,
-) -> Tunnel {
-    let day = Day {
+pub fn rounds(tunnel: Tunnel, counters: &[u64], lists: &mut Lists, turns: u64) -> Tunnel {
+    let mut day = Day {
         tunnel,
         now: 0,
-        index: 257,
+        index: INDEX,
         id: 0,
         sum: 0,
     };
-    day.rounds(store, counters, kinds, verdicts, skips, turns)
-        .ended()
+    for _ in 0..turns {
+        day.round(counters, lists);
+    }
+    let mut tunnel = day.tunnel;
+    tunnel.greatest = day.now.wrapping_add(day.sum % 2);
+    tunnel
 }

@@ -2,8 +2,12 @@
 ghost use Rattle.std.specs.Prelude.{◌≤◌};
 
 use crate::sum;
-use callout_log::append::{Appended, append};
-use callout_log::read::{Walked, read};
+use callout_log::append::{Reports, append};
+use callout_log::read::{Lists, read};
+use std::array;
+
+// What the local indices are raised by from one record to the next.
+const INDEX_STEP: u32 = 0x01020304;
 
 // The number of records in a callout.
 fn records_of(letter: u8) -> usize
@@ -25,173 +29,39 @@ fn callouts_of(pattern: u8) -> usize {
     }
 }
 
-// The new used length.
-fn used_of(appended: Appended) -> usize {
-    match appended {
-        Appended::No(_) => 0,
-        Appended::Used(used) => used,
-    }
-}
-
-// A number that depends on what reading answers.
-fn weight(walked: Walked) -> u64 {
-    match walked {
-        Walked::No(number) => number as u64,
-        Walked::Callouts(count) => count as u64,
-    }
-}
-
-// One of the four verdicts.
-fn verdict_of(place: usize) -> u8 {
-    match place % 4 {
-        0 => 0,
-        1 => 7,
-        2 => 9,
-        _ => 10,
-    }
-}
-
 // Numbers that are a step apart.
 fn numbers(step: u64) -> [u64; 2047] {
-    let mut list = [0u64; 2047];
-    let mut number = 0;
-    let mut i = 0;
-    while i < 2047 {
-        list[i] = number;
-        number = std::num::wrapping_add_u64(number, step);
-        i = i + 1;
-    }
-    list
-}
-
-// Local indices that are a step apart.
-fn indices(step: u32) -> [u32; 2047] {
-    let mut list = [0u32; 2047];
-    let mut number = 0;
-    let mut i = 0;
-    while i < 2047 {
-        list[i] = number;
-        number = std::num::wrapping_add_u32(number, step);
-        i = i + 1;
-    }
-    list
-}
-
-// The four verdicts in turn.
-fn verdicts() -> [u8; 2047] {
-    let mut list = [0u8; 2047];
-    let mut i = 0;
-    while i < 2047 {
-        list[i] = verdict_of(i);
-        i = i + 1;
-    }
-    list
-}
-
-// The sum of numbers.
-fn sum_u64s(list: &[u64]) -> u64 {
-    let mut total = 0;
-    let mut i = 0;
-    while i < list.len() {
-        total = std::num::wrapping_add_u64(total, list[i]);
-        i = i + 1;
-    }
-    total
-}
-
-// The sum of shorter numbers.
-fn sum_u32s(list: &[u32]) -> u32 {
-    let mut total = 0;
-    let mut i = 0;
-    while i < list.len() {
-        total = std::num::wrapping_add_u32(total, list[i]);
-        i = i + 1;
-    }
-    total
+    array::from_fn(|place| step.wrapping_mul(place as u64))
 }
 
 // Appends of one callout, each at one of the first sixteen places.
-fn appends(
-    store: &mut [u8],
-    times: &[u64],
-    counters: &[u64],
-    session_ids: &[u64],
-    local_indices: &[u32],
-    verdicts: &[u8],
-    turns: usize,
-) -> u64 {
-    let mut total = 0;
-    let mut i = 0;
-    while i < turns {
-        let used = used_of(append(
-            store,
-            i % 16,
-            times,
-            counters,
-            session_ids,
-            local_indices,
-            verdicts,
-        ));
-        total = std::num::wrapping_add_u64(total, used as u64);
-        i = i + 1;
+fn appends(store: &mut [u8], reports: Reports, turns: usize) -> u64 {
+    let mut total = 0u64;
+    for turn in 0..turns {
+        let used = append(store, turn % 16, reports).unwrap_or(0);
+        total = total.wrapping_add(used as u64);
     }
-    std::num::wrapping_add_u64(total, sum(store))
+    total.wrapping_add(sum(store))
 }
 
 // The used length of a log of so many callouts with the same records, written to the front of a store.
-fn write_log(
-    store: &mut [u8],
-    times: &[u64],
-    counters: &[u64],
-    session_ids: &[u64],
-    local_indices: &[u32],
-    verdicts: &[u8],
-    callouts: usize,
-) -> usize {
+fn write_log(store: &mut [u8], reports: Reports, callouts: usize) -> usize {
     let mut used = 0;
-    let mut i = 0;
-    while i < callouts {
-        used = used_of(append(
-            store,
-            used,
-            times,
-            counters,
-            session_ids,
-            local_indices,
-            verdicts,
-        ));
-        i = i + 1;
+    for _ in 0..callouts {
+        used = append(store, used, reports).unwrap_or(0);
     }
     used
 }
 
 // Reads of the log.
-fn reads(
-    store: &[u8],
-    used: usize,
-    counts: &mut [u32],
-    times: &mut [u64],
-    counters: &mut [u64],
-    session_ids: &mut [u64],
-    local_indices: &mut [u32],
-    verdicts: &mut [u8],
-    turns: usize,
-) -> u64 {
-    let mut total = 0;
-    let mut i = 0;
-    while i < turns {
-        let walked = read(
-            store,
-            used,
-            counts,
-            times,
-            counters,
-            session_ids,
-            local_indices,
-            verdicts,
-        );
-        total = std::num::wrapping_add_u64(total, weight(walked));
-        i = i + 1;
+fn reads(store: &[u8], used: usize, lists: &mut Lists, turns: usize) -> u64 {
+    let mut total = 0u64;
+    for _ in 0..turns {
+        let weight = match read(store, used, false, lists) {
+            Ok(callouts) => callouts as u64,
+            Err(error) => u64::from(error.number()),
+        };
+        total = total.wrapping_add(weight);
     }
     total
 }
@@ -204,23 +74,23 @@ fn read_case(store: &[u8], used: usize, turns: usize) -> u64 {
     let mut session_ids = [0u64; 2048];
     let mut local_indices = [0u32; 2048];
     let mut verdicts = [0u8; 2048];
-    let answers = reads(
-        store,
-        used,
-        &mut counts,
-        &mut times,
-        &mut counters,
-        &mut session_ids,
-        &mut local_indices,
-        &mut verdicts,
-        turns,
-    );
-    let mut total = std::num::wrapping_add_u64(answers, sum_u32s(&counts) as u64);
-    total = std::num::wrapping_add_u64(total, sum_u64s(&times));
-    total = std::num::wrapping_add_u64(total, sum_u64s(&counters));
-    total = std::num::wrapping_add_u64(total, sum_u64s(&session_ids));
-    total = std::num::wrapping_add_u64(total, sum_u32s(&local_indices) as u64);
-    std::num::wrapping_add_u64(total, sum(&verdicts))
+    let mut lists = Lists {
+        counts: &mut counts,
+        times: &mut times,
+        counters: &mut counters,
+        session_ids: &mut session_ids,
+        local_indices: &mut local_indices,
+        verdicts: &mut verdicts,
+    };
+    let answers = reads(store, used, &mut lists, turns);
+    [times, counters, session_ids]
+        .iter()
+        .flatten()
+        .copied()
+        .fold(answers, u64::wrapping_add)
+        .wrapping_add(u64::from(counts.iter().copied().fold(0, u32::wrapping_add)))
+        .wrapping_add(u64::from(local_indices.iter().copied().fold(0, u32::wrapping_add)))
+        .wrapping_add(sum(&verdicts))
 }
 
 // Carries out a case: the sum of what is answered and of the bytes that are written, or of the numbers that are read.
@@ -229,28 +99,19 @@ pub fn logs(case: u8, pattern: u8, len: u8, turns: usize) -> u64 {
     let times = numbers(1_000_000_007);
     let counters = numbers(0x0102030405060708);
     let session_ids = numbers(3);
-    let local_indices = indices(0x01020304);
-    let verdicts = verdicts();
+    let local_indices: [u32; 2047] = array::from_fn(|i| INDEX_STEP.wrapping_mul(i as u32));
+    let verdicts: [u8; 2047] = array::from_fn(|place| [0, 7, 9, 10][place % 4]);
     let n = records_of(len);
+    let reports = Reports {
+        times: &times[..n],
+        counters: &counters[..n],
+        session_ids: &session_ids[..n],
+        local_indices: &local_indices[..n],
+        verdicts: &verdicts[..n],
+    };
     if case == b'a' {
-        return appends(
-            &mut store,
-            &times[0..n],
-            &counters[0..n],
-            &session_ids[0..n],
-            &local_indices[0..n],
-            &verdicts[0..n],
-            turns,
-        );
+        return appends(&mut store, reports, turns);
     }
-    let used = write_log(
-        &mut store,
-        &times[0..n],
-        &counters[0..n],
-        &session_ids[0..n],
-        &local_indices[0..n],
-        &verdicts[0..n],
-        callouts_of(pattern),
-    );
+    let used = write_log(&mut store, reports, callouts_of(pattern));
     read_case(&store, used, turns)
 }

@@ -7,48 +7,56 @@ mod begin;
 mod counters;
 mod datagrams;
 mod day;
+mod lists;
 mod logs;
 mod turns;
 
-use crate::begin::{begun, weight};
+ghost use Rattle.std.specs.Prelude.{◌≤◌};
+
+use crate::begin::{carrying, established, filled, started, weight};
 use crate::counters::fill;
 use crate::datagrams::datagrams;
 use crate::day::rounds;
+use crate::lists::Lists;
 use crate::logs::logs;
-use crate::turns::{deadlines, drained, events, looks, receives, reports, sends, settles, wakes};
+use crate::turns::{
+    SECOND, deadlines, drained, events, looks, receives, reports, sends, settles, wakes,
+};
 use std::io;
 use std::io::{Read, Write};
 use tunnel::tunnel::{Answered, Tunnel};
 
 // What the input asks for.
 #[derive(Clone, Copy)]
-struct Asked {
+struct Asked<'a> {
     case: u8,
     pattern: u8,
     len: u8,
-    turns: usize,
+    turns: &'a [u8],
 }
 
-// Reads what is asked for.
-fn ask(input: &[u8]) -> Asked {
-    if input.len() < 3 {
-        return Asked {
+// Reads what is asked for: no turn where the input is too short.
+fn ask(input: &[u8]) -> Asked<'_> {
+    match input {
+        [case, pattern, len, turns @ ..] => Asked {
+            case: *case,
+            pattern: *pattern,
+            len: *len,
+            turns,
+        },
+        _ => Asked {
             case: 0,
             pattern: 0,
             len: 0,
-            turns: 0,
-        };
-    }
-    Asked {
-        case: input[0],
-        pattern: input[1],
-        len: input[2],
-        turns: input.len() - 3,
+            turns: &[],
+        },
     }
 }
 
 // The number of messages in a batch.
-fn length_of(letter: u8) -> usize {
+fn length_of(letter: u8) -> usize
+    ensures { (1 ≤ result) × (result ≤ 1024) }
+{
     match letter {
         b'1' => 1,
         b'2' => 64,
@@ -56,184 +64,62 @@ fn length_of(letter: u8) -> usize {
     }
 }
 
-// How many batches there are: nine before the missing reports, and otherwise one in each turn.
-fn batches_of(asked: Asked) -> usize {
-    if asked.case == b'q' {
-        return 9;
-    }
-    asked.turns
-}
-
-// How many missing reports there are at the end: one in each turn, and otherwise one.
-fn reports_of(asked: Asked) -> usize {
-    if asked.case == b'q' {
-        return asked.turns;
-    }
-    1
-}
-
-// The cases with a list.
-fn listed(
-    tunnel: Tunnel,
-    store: &mut [u64],
-    counters: &[u64],
-    kinds: &[u8],
-    verdicts: &mut [u8],
-    skips: &mut [u64],
-    asked: Asked,
-) -> Tunnel {
-    if asked.case == b'm' {
-        return rounds(tunnel, store, counters, kinds, verdicts, skips, asked.turns);
-    }
-    receives(
-        tunnel,
-        store,
-        counters,
-        kinds,
-        verdicts,
-        skips,
-        batches_of(asked),
-    )
-}
-
-// The cases with a list, over so much of the kinds, the verdicts and the skips as a batch has.
-fn cut(
-    tunnel: Tunnel,
-    store: &mut [u64],
-    counters: &[u64],
-    kinds: &[u8],
-    verdicts: &mut [u8],
-    skips: &mut [u64],
-    asked: Asked,
-) -> Tunnel {
-    let len = length_of(asked.len);
-    if len > kinds.len() {
-        return tunnel;
-    }
-    if len > verdicts.len() {
-        return tunnel;
-    }
-    if len > skips.len() {
-        return tunnel;
-    }
-    listed(
-        tunnel,
-        store,
-        counters,
-        &kinds[0..len],
-        &mut verdicts[0..len],
-        &mut skips[0..len],
-        asked,
-    )
-}
-
-// The time from one waking or settling to the next.
-fn step_of(case: u8) -> u64 {
-    match case {
-        b'k' | b'u' => 1_000_000_000,
-        b'h' => 5_000_000_000,
-        _ => 1,
-    }
-}
-
-// Carries the case out.
-fn run(
-    tunnel: Tunnel,
-    asked: Asked,
-    store: &mut [u64],
-    counters: &[u64],
-    kinds: &[u8],
-    verdicts: &mut [u8],
-    skips: &mut [u64],
-) -> Tunnel {
-    let case = asked.case;
-    match case {
-        b's' => sends(tunnel, asked.turns),
-        b'r' | b'm' | b'q' => cut(tunnel, store, counters, kinds, verdicts, skips, asked),
-        b'k' | b'h' | b'i' => wakes(tunnel, store, step_of(case), asked.turns),
-        b't' | b'u' => drained(settles(tunnel, store, step_of(case), asked.turns)),
-        b'l' => looks(tunnel, store, asked.turns),
-        b'd' | b'f' => deadlines(tunnel, asked.turns),
-        _ => events(tunnel, asked.turns),
-    }
-}
-
-// A byte as a wide number.
-fn wide(byte: u8) -> u64 {
-    byte as u64
-}
-
 // The sum of bytes.
 fn sum(bytes: &[u8]) -> u64 {
-    let mut total = 0;
-    let mut i = 0;
-    while i < bytes.len() {
-        total = std::num::wrapping_add_u64(total, wide(bytes[i]));
-        i = i + 1;
+    bytes
+        .iter()
+        .fold(0, |total, byte| total.wrapping_add(u64::from(*byte)))
+}
+
+// Carries out a case of a tunnel: the tunnel as its turns leave it. Nine batches come before missing reports.
+fn run(case: u8, counters: &[u64], lists: &mut Lists, turns: u64) -> Tunnel {
+    match case {
+        b's' => sends(established(lists.store, 0), turns),
+        b'r' => receives(established(lists.store, 25), counters, lists, turns),
+        b'q' => receives(established(lists.store, 25), counters, lists, 9),
+        b'm' => rounds(established(lists.store, 25), counters, lists, turns),
+        b'k' => wakes(established(lists.store, 1), lists.store, SECOND, turns),
+        b'h' => wakes(started(lists.store, 0), lists.store, 5 * SECOND, turns),
+        b'i' => wakes(carrying(lists.store), lists.store, 1, turns),
+        b't' => drained(settles(carrying(lists.store), lists.store, 1, turns)),
+        b'u' => drained(settles(established(lists.store, 1), lists.store, SECOND, turns)),
+        b'l' => looks(carrying(lists.store), lists.store, turns),
+        b'd' => deadlines(carrying(lists.store), turns),
+        b'f' => deadlines(filled(lists.store), turns),
+        _ => events(carrying(lists.store), turns),
     }
-    total
 }
 
 // Writes a number that depends on a call's answer.
 fn print<W: Write>(out: &mut W, answered: Answered) -> io::Result<()> {
-    let answer = answered.answer;
-    let number = weight(answer);
+    let number = weight(answered.answer);
     write!(out, "{number} ")
 }
 
-// Writes a sum and ends the line.
-fn print_sum<W: Write>(out: &mut W, total: u64) -> io::Result<()> {
-    write!(out, "{total}\n")
-}
-
-// Writes the last of the missing reports, the deadline, the counter of a send and the verdicts' sum.
-fn report<W: Write>(
-    out: &mut W,
-    tunnel: Tunnel,
-    store: &[u64],
-    verdicts: &[u8],
-    turns: usize,
-) -> io::Result<()> {
-    print(out, reports(tunnel, store, turns))?;
-    print(out, tunnel.poll_timeout())?;
-    print(out, tunnel.send(1, tunnel.greatest))?;
-    print_sum(out, sum(verdicts))
-}
-
-// The cases of datagrams.
-fn datagram_case<W: Write>(out: &mut W, case: u8, input: &[u8]) -> io::Result<()> {
-    if input.len() < 3 {
-        return Ok(());
-    }
-    let mut bytes = [0u8; 65536];
-    let total = datagrams(&mut bytes, case, &input[3..]);
-    print_sum(out, total)
-}
-
-// The cases of a log.
-fn log_case<W: Write>(out: &mut W, asked: Asked) -> io::Result<()> {
-    let total = logs(asked.case, asked.pattern, asked.len, asked.turns);
-    print_sum(out, total)
-}
-
-// The cases of a tunnel.
+// The cases of a tunnel: the last of the missing reports, one where they are not the case, the deadline, the counter of a send and the
+// verdicts' sum.
 fn tunnel_case<W: Write>(out: &mut W, asked: Asked) -> io::Result<()> {
     let mut store = [0u64; 1024];
     let mut counters = [0u64; 65536];
     let kinds = [0u8; 1024];
     let mut verdicts = [0u8; 1024];
     let mut skips = [0u64; 1024];
+    let len = length_of(asked.len);
+    let turns = asked.turns.len() as u64;
     fill(&mut counters, asked.pattern);
-    let tunnel = run(
-        begun(asked.case, &mut store),
-        asked,
-        &mut store,
-        &counters,
-        &kinds,
-        &mut verdicts,
-        &mut skips,
-    );
-    report(out, tunnel, &store, &verdicts, reports_of(asked))
+    let mut lists = Lists {
+        store: &mut store,
+        kinds: &kinds[..len],
+        verdicts: &mut verdicts[..len],
+        skips: &mut skips[..len],
+    };
+    let tunnel = run(asked.case, &counters, &mut lists, turns);
+    let counted = if asked.case == b'q' { turns } else { 1 };
+    print(out, reports(tunnel, &store, counted))?;
+    print(out, tunnel.poll_timeout())?;
+    print(out, tunnel.send(1, tunnel.greatest))?;
+    let total = sum(&verdicts);
+    writeln!(out, "{total}")
 }
 
 fn main(rt: HostRuntime) -> io::Result<()> {
@@ -241,10 +127,16 @@ fn main(rt: HostRuntime) -> io::Result<()> {
     let count = rt.reader().read(&mut input)?;
     let mut out = io::writer(&rt);
     let asked = ask(&input[..count]);
-    let case = asked.case;
-    match case {
-        b'g' | b'w' => datagram_case(&mut out, case, &input[..count]),
-        b'a' | b'v' => log_case(&mut out, asked),
+    match asked.case {
+        b'g' | b'w' => {
+            let mut bytes = [0u8; 65536];
+            let total = datagrams(&mut bytes, asked.case, asked.turns);
+            writeln!(out, "{total}")
+        }
+        b'a' | b'v' => {
+            let total = logs(asked.case, asked.pattern, asked.len, asked.turns.len());
+            writeln!(out, "{total}")
+        }
         _ => tunnel_case(&mut out, asked),
     }
 }

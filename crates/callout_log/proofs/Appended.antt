@@ -1,5 +1,9 @@
 -- What an append answers in each case, and that the records of a callout's lists are the callout.
 -- Assumes nothing.
+use Rattle.std.specs.Prelude.{Result, Ok, Err}
+use Rattle.error.specs.declared.Error.{Error}
+use Rattle.error.specs.declared.Error.TheVariants.{InvalidTime, InvalidArgument, StoreFull}
+use Rattle.error.specs.Error.{error_number}
 use mathlib.Core.Path.{◌≡◌, refl, ap, sym, ◌∙◌}
 use mathlib.Core.Bool.{Bool, true, false}
 use mathlib.Core.List.{List, [], ◌∷◌, ◌++◌, map}
@@ -9,16 +13,14 @@ use native.Mathlib.Omega.{arith}
 use lib.Dec.{leb}
 use lib.ListN.{length, get_or, take, drop, length-map, get_or-map}
 use borrow.Author.Tests.{le-leb, lt-leb}
-use Rattle.base.specs.Choice.{choose, ◌and◌}
+use Rattle.base.specs.Choice.{choose, case_result, ◌and◌}
 use Rattle.base.specs.Lists.{up_from}
 use Rattle.base.proofs.Choice.{same_choice}
 use Rattle.callout_log.specs.declared.record.Record.{Record}
 use Rattle.callout_log.specs.Record.{is_time, is_verdict}
 use Rattle.callout_log.specs.Trailer.{distance}
 use Rattle.callout_log.specs.Log.{callout_bytes, every, is_store}
-use Rattle.callout_log.specs.Append.{OneLength, Reports, append_answer, append_log, appended_by, appending, beside, case_appended, fitting_answer, records_of, report_at}
-use Rattle.callout_log.specs.declared.append.Appended.{Appended}
-use Rattle.callout_log.specs.declared.append.Appended.TheVariants.{No, Used}
+use Rattle.callout_log.specs.Append.{OneLength, Reports, append_answer, append_log, appended_by, appending, beside, fitting_answer, records_of, report_at}
 use Rattle.callout_log.specs.Laws.{All, AppendLaw, NotAppended, Timely, Verdict, reports_of}
 use Rattle.callout_log.proofs.Told.{append_declined, append_good}
 use Rattle.callout_log.proofs.Tested.{every_true, fails, one_length_true, time_true, true_every, true_one_length, true_time, true_verdict, verdict_true}
@@ -39,7 +41,7 @@ unfolding is_store
 store_over size used h = rw (lt-leb used size h) (same_choice (leb size 65536) false)
 
 -- of three tests that give one answer where they fail, one fails
-one_fails : (a b c : Bool) (x y : Appended) → a and b and c ≡ false → choose a (choose b (choose c x y) y) y ≡ y
+one_fails : (a b c : Bool) (x y : Result ℕ Error) → a and b and c ≡ false → choose a (choose b (choose c x y) y) y ≡ y
 unfolding choose
 one_fails true true c x y e = rw e
 one_fails true false c x y e = refl
@@ -47,17 +49,17 @@ one_fails false b c x y e = refl
 
 module _ (size used : ℕ) (r : Reports) where
   -- a time that breaks rule 1
-  answer_late : (All Timely r.times → ⊥) → append_answer size used r ≡ No 1
+  answer_late : (All Timely r.times → ⊥) → append_answer size used r ≡ Err InvalidTime
   unfolding append_answer choose
   answer_late h = rw (fails (every is_time r.times) (λ e. h (true_every Timely is_time true_time r.times e)))
 
   module _ (timely : All Timely r.times) where
     -- a store, lists or a verdict that break rule 2
-    answer_invalid : is_store size used and beside r and every is_verdict r.verdicts ≡ false → append_answer size used r ≡ No 2
+    answer_invalid : is_store size used and beside r and every is_verdict r.verdicts ≡ false → append_answer size used r ≡ Err InvalidArgument
     unfolding append_answer choose
     answer_invalid e =
         rw (every_true Timely is_time time_true r.times timely)
-        (one_fails (is_store size used) (beside r) (every is_verdict r.verdicts) (fitting_answer size used (length r.times)) (No 2) e)
+        (one_fails (is_store size used) (beside r) (every is_verdict r.verdicts) (fitting_answer size used (length r.times)) (Err InvalidArgument) e)
 
     -- where both rules are kept, the free end decides
     answer_valid : size ≤ 65536 → used ≤ size → OneLength r → All Verdict r.verdicts
@@ -72,31 +74,31 @@ module _ (size used : ℕ) (r : Reports) where
         )
 
 -- the free end is long enough
-fitting : (size used count : ℕ) → used + distance count ≤ size → fitting_answer size used count ≡ Used (used + distance count)
+fitting : (size used count : ℕ) → used + distance count ≤ size → fitting_answer size used count ≡ Ok (used + distance count)
 unfolding fitting_answer choose
 fitting size used count h = rw (le-leb (used + distance count) size h)
 
 -- the free end is too short
-not_fitting : (size used count : ℕ) → size < used + distance count → fitting_answer size used count ≡ No 19
+not_fitting : (size used count : ℕ) → size < used + distance count → fitting_answer size used count ≡ Err StoreFull
 unfolding fitting_answer choose
 not_fitting size used count h = rw (lt-leb (used + distance count) size h)
 
 module _ (store : List ℕ) (used : ℕ) (r : Reports) where
   -- an append that is turned down leaves the store as it came
-  turned_down : (number : ℕ) → append_answer (length store) used r ≡ No number → NotAppended store used r number
-  unfolding append_log appended_by case_appended
-  turned_down number e = append_declined store used r number (rw e)
+  turned_down : (error : Error) → append_answer (length store) used r ≡ Err error → NotAppended store used r (error_number error)
+  unfolding append_log appended_by case_result
+  turned_down error e = append_declined store used r error (rw e)
 
   -- an append that is not writes the callout's bytes from the old to the new used length
-  pub appended : (end : ℕ) → append_answer (length store) used r ≡ Used end
-      → append_log store used r ≡ appending (Used end) (take used store ++ callout_bytes (records_of r) ++ drop end store)
-  unfolding append_log appended_by case_appended
+  pub appended : (end : ℕ) → append_answer (length store) used r ≡ Ok end
+      → append_log store used r ≡ appending (Ok end) (take used store ++ callout_bytes (records_of r) ++ drop end store)
+  unfolding append_log appended_by case_result
   appended end e = rw e
 
   module _ (timely : All Timely r.times) where
     -- one of rule 2's tests fails
     invalid : is_store (length store) used and beside r and every is_verdict r.verdicts ≡ false → NotAppended store used r 2
-    invalid e = turned_down 2 (answer_invalid (length store) used r timely e)
+    invalid e = turned_down InvalidArgument (answer_invalid (length store) used r timely e)
 
     -- a store or a used length that breaks rule 2
     invalid_store : is_store (length store) used ≡ false → NotAppended store used r 2
@@ -119,12 +121,12 @@ module _ (store : List ℕ) (used : ℕ) (r : Reports) where
       -- a free end that is too short
       full : used ≤ length store → length store < used + distance (length r.times) → NotAppended store used r 19
       full u h =
-          turned_down 19 (answer_valid (length store) used r timely size u o v ∙ not_fitting (length store) used (length r.times) h)
+          turned_down StoreFull (answer_valid (length store) used r timely size u o v ∙ not_fitting (length store) used (length r.times) h)
 
       -- a free end that is long enough
       pub fits_good : used + distance (length r.times) ≤ length store
           → append_log store used r
-          ≡ appending (Used (used + distance (length r.times))) (take used store ++ callout_bytes (records_of r) ++ drop (used + distance (length r.times)) store)
+          ≡ appending (Ok (used + distance (length r.times))) (take used store ++ callout_bytes (records_of r) ++ drop (used + distance (length r.times)) store)
       fits_good h =
           appended (used + distance (length r.times))
           (answer_valid (length store) used r timely size (omega arith) o v ∙ fitting (length store) used (length r.times) h)
@@ -166,7 +168,7 @@ module _ (callout : List Record) where
 pub append_law : AppendLaw
 append_law =
     record {
-      time = λ store used r h. turned_down store used r 1 (answer_late (length store) used r h);
+      time = λ store used r h. turned_down store used r InvalidTime (answer_late (length store) used r h);
       size = λ store used r t h. invalid_store store used r t (store_large (length store) used h);
       used = λ store used r t h. invalid_store store used r t (store_over (length store) used h);
       lists = invalid_lists;

@@ -1,57 +1,38 @@
--- A loop that tests each element of a list: where it begins, a turn, and where it ends; and whether a callout fits.
+-- The tests of every element that a chain makes, and whether a callout fits.
 -- Assumes nothing.
-use mathlib.Core.Path.{◌≡◌, refl, sym, ◌∙◌}
+use mathlib.Core.Path.{◌≡◌, refl, ap, ◌∙◌}
 use mathlib.Core.Bool.{Bool, true, false}
-use mathlib.Core.List.{List}
-use Prim.Native.Nat.{ℕ, ◌+◌, ◌-◌, ◌*◌, ◌/◌, ◌≤◌, ◌<◌}
-use native.Mathlib.Numerals.{add-one}
+use mathlib.Core.List.{List, [], ◌∷◌}
+use Prim.Native.Nat.{ℕ, zero, suc, ◌+◌, ◌*◌}
 use native.Mathlib.Omega.{arith}
-use lib.Dec.{leb}
-use lib.ListN.{length, get_or, drop, drop_of_length-le}
-use lib.Seq.{drop-cons}
-use borrow.Author.Tests.{lt-leb, le-leb}
-use Rattle.base.specs.Choice.{choose}
-use Rattle.callout_log.specs.Record.{is_time}
-use Rattle.callout_log.specs.Log.{every}
+use Rattle.std.specs.List.{list_all, range_with_len}
+use Rattle.std.proofs.Common.{◌&&◌}
+use Rattle.base.specs.Choice.{choose, ◌and◌}
+use Rattle.callout_log.specs.Log.{every, places_from}
 
--- the first elements have passed the test
-pub record Tested (test : ℕ → Bool) (list : List ℕ) (i : ℕ) : Type 0 where
-  pub within : i ≤ length list
-  pub told : every test list ≡ every test (drop i list)
+both_same : (a b : Bool) → (a && b) ≡ a and b
+unfolding choose
+both_same true b = refl
+both_same false b = refl
 
-module _ (test : ℕ → Bool) (list : List ℕ) where
-  pub test_begins : Tested test list 0
-  test_begins = record { within = omega arith; told = refl }
+-- the library's test of all elements is ours
+pub all_every : (test : ℕ → Bool) (list : List ℕ) → list_all test list ≡ every test list
+unfolding every
+all_every test [] = refl
+all_every test (x ∷ list) = both_same (test x) (list_all test list) ∙ ap (λ (rest : Bool). test x and rest) (all_every test list)
 
-  module _ (i : ℕ) (y : Tested test list i) where
-    pub test_more : (flag : Bool) → i < length list → flag ≡ test (get_or list i 0) → flag ≡ true → Tested test list (i + 1)
-    unfolding every choose
-    test_more flag h e t =
-        record { within = omega arith; told = y.told ∙ rw (drop-cons list i 0 h, add-one i, ← e, t) }
+-- records one behind another, counted from one of them on
+all_from : (test : ℕ → Bool) (first from count : ℕ)
+    → list_all (λ i. test (first + 32 * i)) (range_with_len from count) ≡ every test (places_from (first + 32 * from) count)
+unfolding every places_from
+all_from test first from zero = refl
+all_from test first from (suc count) =
+    let next : first + 32 * (from + 1) ≡ first + 32 * from + 32 = omega arith in
+    both_same (test (first + 32 * from)) (list_all (λ i. test (first + 32 * i)) (range_with_len (from + 1) count))
+    ∙ ap (λ (rest : Bool). test (first + 32 * from) and rest) (all_from test first (from + 1) count ∙ ap (λ (n : ℕ). every test (places_from n count)) next)
 
-    pub test_fails : (flag : Bool) → i < length list → flag ≡ test (get_or list i 0) → flag ≡ false → false ≡ every test list
-    unfolding every choose
-    test_fails flag h e t = sym (y.told ∙ rw (drop-cons list i 0 h, ← e, t))
-
-    pub test_ends : length list ≤ i → true ≡ every test list
-    unfolding every
-    test_ends h = sym (y.told ∙ rw (drop_of_length-le list {i = i} h))
-
-pub time_more : (list : List ℕ) (i : ℕ) → Tested is_time list i → i < length list → get_or list i 0 ≤ 4000000000000000000 → Tested is_time list (i + 1)
-unfolding is_time
-time_more list i y h l = test_more is_time list i y true h (sym (le-leb (get_or list i 0) 4000000000000000000 l)) refl
-
-pub time_late : (t : ℕ) → 4000000000000000000 < t → false ≡ is_time t
-unfolding is_time
-time_late t h = sym (lt-leb t 4000000000000000000 h)
-
--- the ways through `fits`
-module _ (free count : ℕ) where
-  pub no_trailer : free < 16 → false ≡ leb (16 + 32 * count) free
-  no_trailer h = sym (lt-leb (16 + 32 * count) free (omega arith))
-
-  pub too_many : (free - 16) / 32 < count → false ≡ leb (16 + 32 * count) free
-  too_many h = sym (lt-leb (16 + 32 * count) free (omega arith))
-
-  pub few_enough : 16 ≤ free → count ≤ (free - 16) / 32 → true ≡ leb (16 + 32 * count) free
-  few_enough h k = sym (le-leb (16 + 32 * count) free (omega arith))
+-- records one behind another, counted from the first
+pub all_places : (test : ℕ → Bool) (first count : ℕ) → list_all (λ i. test (first + 32 * i)) (range_with_len 0 count) ≡ every test (places_from first count)
+all_places test first count =
+    let same : first + 32 * 0 ≡ first = omega arith in
+    all_from test first 0 count ∙ ap (λ (n : ℕ). every test (places_from n count)) same

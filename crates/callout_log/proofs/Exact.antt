@@ -1,5 +1,8 @@
 -- Each store that is read is what the appends of the callouts that are answered leave.
 -- Assumes nothing.
+use Rattle.std.specs.Prelude.{Ok, Err}
+use Rattle.error.specs.declared.Error.{Error}
+use Rattle.error.specs.declared.Error.TheVariants.{InvalidArgument, BrokenTrailer, BrokenRecord}
 use mathlib.Core.Path.{◌≡◌, ap, sym, subst, ◌∙◌}
 use mathlib.Core.Bool.{true}
 use mathlib.Core.List.{List, ◌++◌}
@@ -16,8 +19,6 @@ use Rattle.callout_log.specs.Record.{is_record}
 use Rattle.callout_log.specs.Trailer.{is_trailer}
 use Rattle.callout_log.specs.Log.{ends, every, is_store, log_bytes, places}
 use Rattle.callout_log.specs.Read.{Lists, Reading, hold, read_bytes, read_log, reading}
-use Rattle.callout_log.specs.declared.read.Walked.{Walked}
-use Rattle.callout_log.specs.declared.read.Walked.TheVariants.{No, Callouts}
 use Rattle.callout_log.specs.Laws.{Accepted, Appends, ExactLaw, Held, Room, Written, answered}
 use Rattle.callout_log.proofs.Told.{read_declined, read_number}
 use Rattle.callout_log.proofs.Appended.{store_true}
@@ -74,35 +75,31 @@ module _ (store : List ℕ) (used : ℕ) (size : length store ≤ 65536) (within
 
       -- a store that keeps its rules holds callouts
       pub held : Held store used l
-      held = record { callouts = callouts_in log; reads = read; short = λ h. read_declined store used l 2 (read_log_lem l ∙ no_room log l trailers records h); written = written }
+      held = record { callouts = callouts_in log; reads = read; short = λ h. read_declined store used l InvalidArgument (read_log_lem l ∙ no_room log l trailers records h); written = written }
 
 -- a read that is turned down answers no callouts
-not_read : (number count : ℕ) (l left : Lists) → reading (No number) l ≡ reading (Callouts count) left → ⊥
-not_read number count l left e = let z : ◌≡◌ {A = ℕ} 0 1 = ap (λ (r : Reading). kind r.answer) e in omega arith
-  where
-    kind : Walked → ℕ
-    kind (No number) = 0
-    kind (Callouts count) = 1
+not_read : (error : Error) (count : ℕ) (l left : Lists) → reading (Err error) l ≡ reading (Ok count) left → ⊥
+not_read error count l left e = let z : Err error ≡ Ok count = ap (λ (r : Reading). r.answer) e in cc
 
 module _ (store : List ℕ) (used : ℕ) (l left : Lists) (count : ℕ) (b : Bytes store) where
   -- a read that answers callouts accepts the store
-  accepts : read_log store used l ≡ reading (Callouts count) left → Accepted store used l
+  accepts : read_log store used l ≡ reading (Ok count) left → Accepted store used l
   unfolding read_log read_bytes
   accepts =
-      known_choice P (is_store (length store) used) (read_bytes log l) (reading (No 2) l)
-      (λ s. known_choice P (every (is_trailer log) (ends log)) _ (reading (No 17) l)
-      (λ t. known_choice P (every (is_record log) (places log)) _ (reading (No 18) l)
-      (λ r. known_choice P (hold (length (ends log)) (length (places log)) l) _ (reading (No 2) l)
-      (λ h e. good (true_store (length store) used s) t r h) (λ h. no 2)) (λ r. no 18)) (λ t. no 17)) (λ s. no 2)
+      known_choice P (is_store (length store) used) (read_bytes log l) (reading (Err InvalidArgument) l)
+      (λ s. known_choice P (every (is_trailer log) (ends log)) _ (reading (Err BrokenTrailer) l)
+      (λ t. known_choice P (every (is_record log) (places log)) _ (reading (Err BrokenRecord) l)
+      (λ r. known_choice P (hold (length (ends log)) (length (places log)) l) _ (reading (Err InvalidArgument) l)
+      (λ h e. good (true_store (length store) used s) t r h) (λ h. no InvalidArgument)) (λ r. no BrokenRecord)) (λ t. no BrokenTrailer)) (λ s. no InvalidArgument)
     where
       log : List ℕ
       log = take used store
 
       P : Reading → Type 0
-      P r = r ≡ reading (Callouts count) left → Accepted store used l
+      P r = r ≡ reading (Ok count) left → Accepted store used l
 
-      no : (number : ℕ) → P (reading (No number) l)
-      no number e = absurd (not_read number count l left e)
+      no : (error : Error) → P (reading (Err error) l)
+      no error e = absurd (not_read error count l left e)
 
       good : (length store ≤ 65536) × (used ≤ length store) → every (is_trailer log) (ends log) ≡ true → every (is_record log) (places log) ≡ true
           → hold (length (ends log)) (length (places log)) l ≡ true → Accepted store used l

@@ -1,231 +1,280 @@
--- The loop that reads callouts into the lent lists: where it begins, a turn, and where it ends.
+-- The loops that read records and callouts into lent lists: where each begins, a turn, and where it ends.
 -- Assumes nothing.
-use mathlib.Core.Path.{◌≡◌, refl, ap, sym, subst, ◌∙◌}
+use mathlib.Core.Path.{◌≡◌, refl, ap, sym, ◌∙◌}
 use mathlib.Core.Bool.{Bool, true}
-use mathlib.Core.List.{List, [], ◌∷◌, ◌++◌, append-nil, append_assoc, map, map-append, map-map}
-use Prim.Native.Nat.{ℕ, ◌+◌, ◌-◌, ◌*◌, ◌≤◌, ◌<◌}
-use native.Mathlib.Numerals.{add-one}
+use mathlib.Core.List.{List, [], ◌∷◌, ◌++◌, map, map-append}
+use Prim.Native.Nat.{ℕ, suc, ◌+◌, ◌-◌, ◌*◌, ◌≤◌, ◌<◌}
 use native.Mathlib.Omega.{arith}
 use lib.Dec.{leb}
-use lib.ListN.{length, set, take, drop, length-append, length-drop, length-map, take-append-drop}
-use lib.Seq.{length-take-le, set_split, take_at, drop_at, drop-drop}
+use lib.ListN.{length, set, length-append, length-map, length-set}
 use borrow.Author.Tests.{leb-true}
-use borrow.Rule.Slice.PartMut.{put_mid}
 use Rattle.base.specs.Choice.{◌and◌}
+use Rattle.callout_log.specs.Callouts.{StepsBack}
+use Rattle.callout_log.specs.declared.log.Callout.{Callout}
+use Rattle.callout_log.specs.declared.log.Callouts.{Callouts}
 use Rattle.callout_log.specs.declared.record.Record.{Record}
-use Rattle.callout_log.specs.Record.{record_at}
-use Rattle.callout_log.specs.Trailer.{count_before, distance, is_trailer}
-use Rattle.callout_log.specs.Log.{ends, every, places, places_before, places_from}
-use Rattle.callout_log.specs.Read.{hold_lengths, Exactly, Fields, hold, listing, lists_of, over}
+use Rattle.callout_log.specs.Record.{record_at, shown}
+use Rattle.callout_log.specs.Trailer.{count_before}
+use Rattle.callout_log.specs.Log.{ends, places, places_before, places_from}
+use Rattle.callout_log.specs.declared.read.Lists.{Lists as Lent}
+use Rattle.callout_log.specs.Read.{HasRoom, Lists, SameLists, hold, listing, lists_of, over, put_all, put_at}
 use Rattle.callout_log.proofs.Copies.{length_places}
-use Rattle.callout_log.proofs.Trailers.{points_back}
-use Rattle.callout_log.proofs.Walk.{both, from, from_good, from_front}
-use Rattle.callout_log.proofs.Walking.{good_here, good_back}
+use Rattle.callout_log.proofs.Walk.{both, from, from_front}
+use Rattle.callout_log.proofs.Walking.{step_count, step_ends, step_far, step_inside, step_places, step_same}
 
--- values are stored up to a place of a list: those that are left make it the whole
-pub record Part (came now all rest : List ℕ) (at : ℕ) : Type 0 where
-  pub room : at + length rest ≤ length now
-  pub long : length now ≡ length came
-  pub told : over all came ≡ take at now ++ rest ++ drop (at + length rest) now
+-- references that are the same as others are the same as what those are
+pub same_on : (a b c : Lent) → SameLists a b → SameLists b c → SameLists a c
+same_on a b c p q =
+    record {
+      counts = p.counts ∙ q.counts;
+      times = p.times ∙ q.times;
+      counters = p.counters ∙ q.counters;
+      session_ids = p.session_ids ∙ q.session_ids;
+      local_indices = p.local_indices ∙ q.local_indices;
+      verdicts = p.verdicts ∙ q.verdicts;
+    }
 
-module _ (came all : List ℕ) where
-  part_begins : length all ≤ length came → Part came came all all 0
-  unfolding over
-  part_begins h =
-      let none : length all ≡ 0 + length all = omega arith in
-      record { room = omega arith; long = refl; told = ap (λ (n : ℕ). all ++ drop n came) none }
+-- values put one by one from a place of a list on
+unfoldable pub stored : (at : ℕ) → List ℕ → List ℕ → List ℕ
+stored at [] list = list
+stored at (v ∷ values) list = stored (suc at) values (set list at v)
 
-  module _ (now : List ℕ) (at : ℕ) where
-    part_ends : Part came now all [] at → now ≡ over all came
-    part_ends p =
-        let none : at + 0 ≡ at = omega arith in
-        sym (p.told ∙ rw (none, append-nil (take at now)) (take-append-drop at now))
+-- behind the first element nothing is put into it
+stored_behind : (values : List ℕ) (at x : ℕ) (list : List ℕ) → stored (suc at) values (x ∷ list) ≡ x ∷ stored at values list
+unfolding stored
+stored_behind [] at x list = refl
+stored_behind (v ∷ values) at x list = stored_behind values (suc at) x (set list at v)
 
-    module _ (values rest : List ℕ) (n : ℕ) (p : Part came now all (values ++ rest) at) (size : length values ≡ n) where
-      part_room : at + n ≤ length now
-      part_room = omega (arith, p.room, length-append values rest)
+-- values put from the front on stand over the list
+stored_over : (values list : List ℕ) → length values ≤ length list → stored 0 values list ≡ over values list
+unfolding stored over
+stored_over [] list h = refl
+stored_over (v ∷ values) [] h = absurd (omega arith)
+stored_over (v ∷ values) (x ∷ list) h = stored_behind values 0 v list ∙ ap (λ (l : List ℕ). v ∷ l) (stored_over values list (omega arith))
 
-      part_more : (part last : List ℕ) → part ≡ values → last ≡ put_mid at (at + n - at) now part → Part came last all rest (at + n)
-      part_more part last e q =
-          let width : at + n - at ≡ n = omega arith in
-          let stored : last ≡ take at now ++ values ++ drop (at + n) now =
-          q ∙ rw (width, e, drop-drop n at now) (sym (append_assoc (take at now) values (drop (at + n) now))) in
-          let front : length (take at now ++ values) ≡ at + n =
-          length-append (take at now) values ∙ omega (arith, length-take-le at now (omega (arith, part_room)), size) in
-          let behind : at + length (values ++ rest) ≡ at + n + length rest = omega (arith, length-append values rest) in
+stored_length : (values : List ℕ) (at : ℕ) (list : List ℕ) → length (stored at values list) ≡ length list
+unfolding stored
+stored_length [] at list = refl
+stored_length (v ∷ values) at list = stored_length values (suc at) (set list at v) ∙ length-set list at v
+
+-- the lists with other counts
+abbrev pub with_counts : List ℕ → Lists → Lists
+with_counts counts l = lists_of counts l.times l.counters l.session_ids l.local_indices l.verdicts
+
+-- records put from a place on, list by list
+put_fields : (records : List Record) (at : ℕ) (l : Lists)
+    → put_all at records l
+    ≡ lists_of l.counts (stored at (map (λ (r : Record). r.time) records) l.times) (stored at (map (λ (r : Record). r.counter) records) l.counters)
+    (stored at (map (λ (r : Record). r.session_id) records) l.session_ids) (stored at (map (λ (r : Record). r.local_index) records) l.local_indices)
+    (stored at (map (λ (r : Record). r.verdict) records) l.verdicts)
+unfolding put_all stored
+put_fields [] at l = refl
+put_fields (r ∷ records) at l = put_fields records (suc at) (put_at at r l)
+
+put_on : (first second : List Record) (at : ℕ) (l : Lists) → put_all at (first ++ second) l ≡ put_all (at + length first) second (put_all at first l)
+unfolding put_all
+put_on [] second at l = let same : at ≡ at + 0 = omega arith in ap (λ (n : ℕ). put_all n second l) same
+put_on (r ∷ first) second at l =
+    let same : suc at + length first ≡ at + length (r ∷ first) = omega arith in
+    put_on first second (suc at) (put_at at r l) ∙ ap (λ (n : ℕ). put_all n second (put_all (suc at) first (put_at at r l))) same
+
+put_first : (r : Record) (records : List Record) (at next : ℕ) (l last : Lists) → suc at ≡ next → last ≡ put_at at r l → put_all at (r ∷ records) l ≡ put_all next records last
+unfolding put_all
+put_first r records at next l last e q = rw (q, ← e)
+
+-- records put leave the counts, and each list its length
+put_counts : (records : List Record) (at : ℕ) (counts : List ℕ) (l : Lists) → put_all at records (with_counts counts l) ≡ with_counts counts (put_all at records l)
+unfolding put_all
+put_counts [] at counts l = refl
+put_counts (r ∷ records) at counts l = put_counts records (suc at) counts (put_at at r l)
+
+pub room_kept : (records : List Record) (at n : ℕ) (l : Lists) → HasRoom n l → HasRoom n (put_all at records l)
+room_kept records at n l h =
+    rw (put_fields records at l) record {
+      times = omega (arith, h.times, stored_length (map (λ (r : Record). r.time) records) at l.times);
+      counters = omega (arith, h.counters, stored_length (map (λ (r : Record). r.counter) records) at l.counters);
+      session_ids = omega (arith, h.session_ids, stored_length (map (λ (r : Record). r.session_id) records) at l.session_ids);
+      local_indices = omega (arith, h.local_indices, stored_length (map (λ (r : Record). r.local_index) records) at l.local_indices);
+      verdicts = omega (arith, h.verdicts, stored_length (map (λ (r : Record). r.verdict) records) at l.verdicts);
+    }
+
+-- lists with counts and records put from the front on
+listing_is : (counts : List ℕ) (records : List Record) (l : Lists) → length counts ≤ length l.counts → HasRoom (length records) l
+    → listing counts records l ≡ with_counts (stored 0 counts l.counts) (put_all 0 records l)
+unfolding listing
+listing_is counts records l c h =
+    rw (
+      put_fields records 0 l,
+      stored_over counts l.counts c,
+      stored_over (map (λ (r : Record). r.time) records) l.times (omega (arith, h.times, length-map records (λ (r : Record). r.time))),
+      stored_over (map (λ (r : Record). r.counter) records) l.counters (omega (arith, h.counters, length-map records (λ (r : Record). r.counter))),
+      stored_over (map (λ (r : Record). r.session_id) records) l.session_ids (omega (arith, h.session_ids, length-map records (λ (r : Record). r.session_id))),
+      stored_over (map (λ (r : Record). r.local_index) records) l.local_indices (omega (arith, h.local_indices, length-map records (λ (r : Record). r.local_index))),
+      stored_over (map (λ (r : Record). r.verdict) records) l.verdicts (omega (arith, h.verdicts, length-map records (λ (r : Record). r.verdict))),
+    )
+
+module _ (bytes : List ℕ) (hides : Bool) where
+  -- the records at places as they are seen
+  abbrev pub records_at : List ℕ → List Record
+  records_at list = map (λ (place : ℕ). shown hides (record_at bytes place)) list
+
+  -- the first records from a place on are put, so many
+  pub record Putting (first count : ℕ) (came now : Lists) (at i : ℕ) : Type 0 where
+    pub inside : first + 32 * count ≤ length bytes
+    pub within : i ≤ count
+    pub room : HasRoom (at + count) now
+    pub told : put_all at (records_at (places_from first count)) came ≡ put_all (at + i) (records_at (places_from (first + 32 * i) (count - i))) now
+
+  module _ (first count : ℕ) (came : Lists) (at : ℕ) where
+    pub put_begins : first + 32 * count ≤ length bytes → HasRoom (at + count) came → Putting first count came came at 0
+    put_begins h r =
+        let a : at + 0 ≡ at = omega arith in
+        let b : first + 32 * 0 ≡ first = omega arith in
+        let c : count - 0 ≡ count = omega arith in
+        record { inside = h; within = omega arith; room = r; told = rw (a, b, c) }
+
+    module _ (now : Lists) (i : ℕ) (y : Putting first count came now at i) where
+      pub put_room : i < count → HasRoom (at + i + 1) now
+      put_room h =
           record {
-            room = rw (stored, length-append (take at now ++ values) (drop (at + n) now)) (omega (arith, front, length-drop (at + n) now, p.room, behind));
-            long = rw (stored, length-append (take at now ++ values) (drop (at + n) now)) (omega (arith, front, length-drop (at + n) now, part_room, p.long));
-            told = p.told ∙ rw (
-              behind,
-              stored,
-              take_at (take at now ++ values) (drop (at + n) now) (at + n) front,
-              ← drop-drop (length rest) (at + n) (take at now ++ values ++ drop (at + n) now),
-              drop_at (take at now ++ values) (drop (at + n) now) (at + n) front,
-              drop-drop (length rest) (at + n) now,
-            )
-                (ap (λ (l : List ℕ). l ++ drop (at + n + length rest) now) (sym (append_assoc (take at now) values rest)));
+            times = omega (arith, y.room.times);
+            counters = omega (arith, y.room.counters);
+            session_ids = omega (arith, y.room.session_ids);
+            local_indices = omega (arith, y.room.local_indices);
+            verdicts = omega (arith, y.room.verdicts);
           }
 
-    -- one value
-    part_set : (v : ℕ) (rest last : List ℕ) → Part came now all (v ∷ rest) at → last ≡ set now at v → Part came last all rest (at + 1)
-    part_set v rest last p q =
-        let width : at + 1 - at ≡ 1 = omega arith in
-        part_more (v ∷ []) rest 1 p refl (v ∷ []) last refl
-        (q ∙ set_split now at v (omega (arith, p.room)) ∙ rw (width, drop-drop 1 at now, add-one at))
-
--- the lists while callouts are read into them
-pub record Filling (bytes c₀ t₀ k₀ s₀ l₀ v₀ c t k s l v : List ℕ) (end callouts at : ℕ) : Type 0 where
-  pub within : end ≤ length bytes
-  pub good : every (is_trailer bytes) (from bytes end) ≡ true
-  pub counts : Part c₀ c (map (count_before bytes) (ends bytes)) (map (count_before bytes) (from bytes end)) callouts
-  pub times : Part t₀ t (map (λ (p : ℕ). (record_at bytes p).time) (places bytes)) (map (λ (p : ℕ). (record_at bytes p).time) (places_before bytes (from bytes end))) at
-  pub counters : Part k₀ k (map (λ (p : ℕ). (record_at bytes p).counter) (places bytes)) (map (λ (p : ℕ). (record_at bytes p).counter) (places_before bytes (from bytes end))) at
-  pub session_ids : Part s₀ s (map (λ (p : ℕ). (record_at bytes p).session_id) (places bytes))
-      (map (λ (p : ℕ). (record_at bytes p).session_id) (places_before bytes (from bytes end))) at
-  pub local_indices : Part l₀ l (map (λ (p : ℕ). (record_at bytes p).local_index) (places bytes))
-      (map (λ (p : ℕ). (record_at bytes p).local_index) (places_before bytes (from bytes end))) at
-  pub verdicts : Part v₀ v (map (λ (p : ℕ). (record_at bytes p).verdict) (places bytes)) (map (λ (p : ℕ). (record_at bytes p).verdict) (places_before bytes (from bytes end))) at
-
--- two lengths that are asked for
-first_holds : (records size : ℕ) (more : Bool) → leb records size and more ≡ true → (records ≤ size) × (more ≡ true)
-first_holds records size more h = (leb-true records size (both (leb records size) more h).0, (both (leb records size) more h).1)
-
--- a list that is asked for so many elements has room for what is made of as many places
-values_fit : (value : ℕ → ℕ) (list places : List ℕ) → length places ≤ length list → length (map value places) ≤ length list
-values_fit value list places h = rw (length-map places value) h
-
-module _ (bytes c₀ t₀ k₀ s₀ l₀ v₀ : List ℕ) where
-  pub fill_begins : every (is_trailer bytes) (ends bytes) ≡ true → hold (length (ends bytes)) (length (places bytes)) (lists_of c₀ t₀ k₀ s₀ l₀ v₀) ≡ true
-      → Filling bytes c₀ t₀ k₀ s₀ l₀ v₀ c₀ t₀ k₀ s₀ l₀ v₀ (length bytes) 0 0
-  unfolding hold_lengths ends places
-  fill_begins g h =
-      let a = first_holds (length (ends bytes)) (length c₀) _ h in
-      let b = first_holds (length (places bytes)) (length t₀) _ a.1 in
-      let d = first_holds (length (places bytes)) (length k₀) _ b.1 in
-      let e = first_holds (length (places bytes)) (length s₀) _ d.1 in
-      let f = first_holds (length (places bytes)) (length l₀) _ e.1 in
-      record {
-        within = omega arith;
-        good = g;
-        counts = part_begins c₀ (map (count_before bytes) (ends bytes)) (values_fit (count_before bytes) c₀ (ends bytes) a.0);
-        times = part_begins t₀ (map (λ (p : ℕ). (record_at bytes p).time) (places bytes)) (values_fit (λ (p : ℕ). (record_at bytes p).time) t₀ (places bytes) b.0);
-        counters = part_begins k₀ (map (λ (p : ℕ). (record_at bytes p).counter) (places bytes)) (values_fit (λ (p : ℕ). (record_at bytes p).counter) k₀ (places bytes) d.0);
-        session_ids = part_begins s₀ (map (λ (p : ℕ). (record_at bytes p).session_id) (places bytes)) (values_fit (λ (p : ℕ). (record_at bytes p).session_id) s₀ (places bytes) e.0);
-        local_indices = part_begins l₀ (map (λ (p : ℕ). (record_at bytes p).local_index) (places bytes)) (values_fit (λ (p : ℕ). (record_at bytes p).local_index) l₀ (places bytes) f.0);
-        verdicts = part_begins v₀ (map (λ (p : ℕ). (record_at bytes p).verdict) (places bytes)) (values_fit (λ (p : ℕ). (record_at bytes p).verdict) v₀ (places bytes) (leb-true (length (places bytes)) (length v₀) f.1));
-      }
-
-  module _ (c t k s l v : List ℕ) (end callouts at : ℕ) (y : Filling bytes c₀ t₀ k₀ s₀ l₀ v₀ c t k s l v end callouts at) where
-    pub fill_ends : end ≤ 0
-        → lists_of c t k s l v ≡ listing (map (count_before bytes) (ends bytes)) (map (record_at bytes) (places bytes)) (lists_of c₀ t₀ k₀ s₀ l₀ v₀)
-    unfolding listing places_before
-    fill_ends h =
-        let front : end ≡ 0 = omega arith in
-        let none : from bytes end ≡ [] = ap (from bytes) front ∙ from_front bytes in
-        let own : (value : ℕ → ℕ) (came now : List ℕ) → Part came now (map value (places bytes)) (map value (places_before bytes (from bytes end))) at → now ≡ over (map value (places bytes)) came =
-        λ value came now p. part_ends came (map value (places bytes)) now at (subst (λ (e : List ℕ). Part came now (map value (places bytes)) (map value (places_before bytes e)) at) none p) in
-        rw (
-          map-map (λ (r : Record). r.time) (record_at bytes) (places bytes),
-          map-map (λ (r : Record). r.counter) (record_at bytes) (places bytes),
-          map-map (λ (r : Record). r.session_id) (record_at bytes) (places bytes),
-          map-map (λ (r : Record). r.local_index) (record_at bytes) (places bytes),
-          map-map (λ (r : Record). r.verdict) (record_at bytes) (places bytes),
-          ← part_ends c₀ (map (count_before bytes) (ends bytes)) c callouts
-              (subst (λ (e : List ℕ). Part c₀ c (map (count_before bytes) (ends bytes)) (map (count_before bytes) e) callouts) none y.counts),
-          ← own (λ (p : ℕ). (record_at bytes p).time) t₀ t y.times,
-          ← own (λ (p : ℕ). (record_at bytes p).counter) k₀ k y.counters,
-          ← own (λ (p : ℕ). (record_at bytes p).session_id) s₀ s y.session_ids,
-          ← own (λ (p : ℕ). (record_at bytes p).local_index) l₀ l y.local_indices,
-          ← own (λ (p : ℕ). (record_at bytes p).verdict) v₀ v y.verdicts,
-        )
-
-    pub fill_eight : 0 < end → 8 ≤ end
-    fill_eight h = omega (arith, points_back bytes end (good_here bytes end y.good h))
-
-    pub fill_count : 0 < end → callouts < length c
-    fill_count h =
-        let rest : map (count_before bytes) (from bytes end) ≡ count_before bytes end ∷ map (count_before bytes) (from bytes (end - distance (count_before bytes end))) =
-        ap (map (count_before bytes)) (from_good bytes end h (good_here bytes end y.good h)) in
-        omega (arith, y.counts.room, ap length rest)
-
-    module _ (n : ℕ) (h : 0 < end) (e : n ≡ count_before bytes end) where
-      here : from bytes end ≡ end ∷ from bytes (end - (16 + 32 * n))
-      here = from_good bytes end h (good_here bytes end y.good h) ∙ rw (← e)
-
-      pub fill_back : 16 + 32 * n ≤ end
-      fill_back = omega (arith, e, points_back bytes end (good_here bytes end y.good h))
-
-      pub fill_inside : end - (16 + 32 * n) + 32 * n ≤ length bytes
-      fill_inside = omega (arith, fill_back, y.within)
-
-      -- what is left of a list of values: those of this callout, and of those before it
-      module _ (value : ℕ → ℕ) (came now : List ℕ) (p : Part came now (map value (places bytes)) (map value (places_before bytes (from bytes end))) at) where
-        split : Part came now (map value (places bytes)) (map value (places_from (end - (16 + 32 * n)) n) ++ map value (places_before bytes (from bytes (end - (16 + 32 * n))))) at
-        unfolding places_before
-        split =
-            subst (λ (rest : List ℕ). Part came now (map value (places bytes)) rest at)
-            (ap (λ (m : List ℕ). map value (places_before bytes m)) here ∙ rw (← e) (map-append value (places_from (end - (16 + 32 * n)) n) (places_before bytes (from bytes (end - (16 + 32 * n))))))
-            p
-
-        sized : length (map value (places_from (end - (16 + 32 * n)) n)) ≡ n
-        sized = length-map (places_from (end - (16 + 32 * n)) n) value ∙ length_places (end - (16 + 32 * n)) n
-
-        room : at + n ≤ length now
-        room =
-            part_room came (map value (places bytes)) now at (map value (places_from (end - (16 + 32 * n)) n)) (map value (places_before bytes (from bytes (end - (16 + 32 * n))))) n split sized
-
-        filled : (part last : List ℕ) → part ≡ map value (places_from (end - (16 + 32 * n)) n) → last ≡ put_mid at (at + n - at) now part
-            → Part came last (map value (places bytes)) (map value (places_before bytes (from bytes (end - (16 + 32 * n))))) (at + n)
-        filled =
-            part_more came (map value (places bytes)) now at (map value (places_from (end - (16 + 32 * n)) n)) (map value (places_before bytes (from bytes (end - (16 + 32 * n))))) n split sized
-
-      pub fill_times : at + n ≤ length t
-      fill_times = room (λ (p : ℕ). (record_at bytes p).time) t₀ t y.times
-
-      pub fill_counters : at + n ≤ length k
-      fill_counters = room (λ (p : ℕ). (record_at bytes p).counter) k₀ k y.counters
-
-      pub fill_session_ids : at + n ≤ length s
-      fill_session_ids = room (λ (p : ℕ). (record_at bytes p).session_id) s₀ s y.session_ids
-
-      pub fill_local_indices : at + n ≤ length l
-      fill_local_indices = room (λ (p : ℕ). (record_at bytes p).local_index) l₀ l y.local_indices
-
-      pub fill_verdicts : at + n ≤ length v
-      fill_verdicts = room (λ (p : ℕ). (record_at bytes p).verdict) v₀ v y.verdicts
-
-      -- a part of so many elements
-      exact : (now : List ℕ) → at + n ≤ length now → length (take (at + n - at) (drop at now)) ≡ n
-      exact now q =
-          let width : at + n - at ≡ n = omega arith in
-          rw width (length-take-le n (drop at now) (omega (arith, length-drop at now)))
-
-      pub fill_exactly : Exactly n (take (at + n - at) (drop at t)) (take (at + n - at) (drop at k)) (take (at + n - at) (drop at s)) (take (at + n - at) (drop at l)) (take (at + n - at) (drop at v))
-      fill_exactly =
+      pub put_more : (r : Record) (last : Lists) → i < count → r ≡ shown hides (record_at bytes (first + 32 * i)) → last ≡ put_at (at + i) r now
+          → Putting first count came last at (i + 1)
+      unfolding put_all places_from
+      put_more r last h e q =
+          let a : count - i ≡ suc (count - (i + 1)) = omega arith in
+          let b : first + 32 * i + 32 ≡ first + 32 * (i + 1) = omega arith in
+          let left : List Record = records_at (places_from (first + 32 * (i + 1)) (count - (i + 1))) in
           record {
-            times = exact t fill_times;
-            counters = exact k fill_counters;
-            session_ids = exact s fill_session_ids;
-            local_indices = exact l fill_local_indices;
-            verdicts = exact v fill_verdicts;
+            inside = y.inside;
+            within = omega arith;
+            room = rw q (room_kept (r ∷ []) (at + i) (at + count) now y.room);
+            told = y.told ∙ rw (a, b, ← e) (put_first r left (at + i) (at + (i + 1)) now last (omega arith) q);
           }
 
-      pub fill_more : (t'' k'' s'' l'' v'' c' t' k' s' l' v' : List ℕ) → Fields bytes (end - (16 + 32 * n)) n t'' k'' s'' l'' v''
-          → c' ≡ set c callouts n → t' ≡ put_mid at (at + n - at) t t'' → k' ≡ put_mid at (at + n - at) k k'' → s' ≡ put_mid at (at + n - at) s s''
-          → l' ≡ put_mid at (at + n - at) l l'' → v' ≡ put_mid at (at + n - at) v v''
-          → Filling bytes c₀ t₀ k₀ s₀ l₀ v₀ c' t' k' s' l' v' (end - (16 + 32 * n)) (callouts + 1) (at + n)
-      fill_more t'' k'' s'' l'' v'' c' t' k' s' l' v' f qc qt qk qs ql qv =
-          record {
-            within = omega (arith, y.within);
-            good = rw e (good_back bytes end y.good h);
-            counts = part_set c₀ (map (count_before bytes) (ends bytes)) c callouts n (map (count_before bytes) (from bytes (end - (16 + 32 * n)))) c'
-                (subst (λ (rest : List ℕ). Part c₀ c (map (count_before bytes) (ends bytes)) rest callouts) (ap (map (count_before bytes)) here ∙ rw (← e)) y.counts) qc;
-            times = filled (λ (p : ℕ). (record_at bytes p).time) t₀ t y.times t'' t' f.time qt;
-            counters = filled (λ (p : ℕ). (record_at bytes p).counter) k₀ k y.counters k'' k' f.counter qk;
-            session_ids = filled (λ (p : ℕ). (record_at bytes p).session_id) s₀ s y.session_ids s'' s' f.session_id qs;
-            local_indices = filled (λ (p : ℕ). (record_at bytes p).local_index) l₀ l y.local_indices l'' l' f.local_index ql;
-            verdicts = filled (λ (p : ℕ). (record_at bytes p).verdict) v₀ v y.verdicts v'' v' f.verdict qv;
-          }
+      pub put_ends : count ≤ i → now ≡ put_all at (records_at (places_from first count)) came
+      unfolding put_all places_from
+      put_ends h = let a : count - i ≡ 0 = omega arith in sym (y.told ∙ rw a)
 
-pub ruleset fills = (fill_times, fill_counters, fill_session_ids, fill_local_indices, fill_verdicts)
+  -- callouts are read, so many with so many records, and these are left
+  pub record Filling (came now : Lists) (left : Callouts) (callouts at : ℕ) : Type 0 where
+    pub same : left.bytes.now ≡ bytes
+    pub small : length bytes < 18446744073709551616
+    pub within : 16 * callouts + 32 * at + left.end ≤ length bytes
+    pub counts_room : callouts + length (from bytes left.end) ≤ length now.counts
+    pub room : HasRoom (at + length (places_before bytes (from bytes left.end))) now
+    pub told : listing (map (count_before bytes) (ends bytes)) (records_at (places bytes)) came
+        ≡ with_counts (stored callouts (map (count_before bytes) (from bytes left.end)) now.counts) (put_all at (records_at (places_before bytes (from bytes left.end))) now)
+
+  -- one callout put, with its count
+  fill_step : (counts : List ℕ) (own rest : List Record) (n callouts at : ℕ) (now last : Lists) → length own ≡ n
+      → last ≡ put_all at own (with_counts (set now.counts callouts n) now)
+      → with_counts (stored callouts (n ∷ counts) now.counts) (put_all at (own ++ rest) now)
+      ≡ with_counts (stored (callouts + 1) counts last.counts) (put_all (at + n) rest last)
+  unfolding stored
+  fill_step counts own rest n callouts at now last size q =
+      let next : suc callouts ≡ callouts + 1 = omega arith in
+      let done : last ≡ with_counts (set now.counts callouts n) (put_all at own now) = q ∙ put_counts own at (set now.counts callouts n) now in
+      rw (put_on own rest at now, size, next, done, put_counts rest (at + n) (set now.counts callouts n) (put_all at own now))
+
+  -- two lengths that are asked for
+  first_holds : (records size : ℕ) (more : Bool) → leb records size and more ≡ true → (records ≤ size) × (more ≡ true)
+  first_holds records size more h = (leb-true records size (both (leb records size) more h).0, (both (leb records size) more h).1)
+
+  pub room_found : (callouts records : ℕ) (l : Lists) → hold callouts records l ≡ true → (callouts ≤ length l.counts) × HasRoom records l
+  unfolding hold
+  room_found callouts records l h =
+      let a = first_holds callouts (length l.counts) _ h in
+      let b = first_holds records (length l.times) _ a.1 in
+      let c = first_holds records (length l.counters) _ b.1 in
+      let d = first_holds records (length l.session_ids) _ c.1 in
+      let e = first_holds records (length l.local_indices) _ d.1 in
+      (a.0, record { times = b.0; counters = c.0; session_ids = d.0; local_indices = e.0; verdicts = leb-true records (length l.verdicts) e.1 })
+
+  module _ (came : Lists) (left : Callouts) where
+    pub fill_begins : (callouts records : ℕ) → left.bytes.now ≡ bytes → left.end ≡ length bytes → callouts ≡ length (ends bytes) → records ≡ length (places bytes)
+        → hold callouts records came ≡ true → length bytes < 18446744073709551616 → Filling came came left 0 0
+    unfolding ends places
+    fill_begins callouts records b e c r h s =
+        let room = room_found (length (ends bytes)) (length (places bytes)) came (rw (← c, ← r) h) in
+        let every_end : from bytes left.end ≡ ends bytes = ap (from bytes) e in
+        let same : 0 + length (places bytes) ≡ length (places bytes) = omega arith in
+        record {
+          same = b;
+          small = s;
+          within = omega (arith, e);
+          counts_room = rw every_end (omega (arith, room.0));
+          room = rw (every_end, same) room.1;
+          told = rw every_end
+              (listing_is (map (count_before bytes) (ends bytes)) (records_at (places bytes)) came
+              (omega (arith, room.0, length-map (ends bytes) (count_before bytes)))
+              (rw (length-map (places bytes) (λ (place : ℕ). shown hides (record_at bytes place))) room.1));
+        }
+
+    module _ (now : Lists) (callouts at : ℕ) (y : Filling came now left callouts at) where
+      pub fill_ends : left.end ≡ 0 → now ≡ listing (map (count_before bytes) (ends bytes)) (records_at (places bytes)) came
+      unfolding places_before stored put_all
+      fill_ends e = let none : from bytes left.end ≡ [] = ap (from bytes) e ∙ from_front bytes in sym (y.told ∙ rw none)
+
+      module _ (callout : Callout) (after : Callouts) (s : StepsBack left callout after) where
+        -- its records are put in front of those before it
+        all : length (places_before bytes (from bytes left.end)) ≡ callout.count + length (places_before bytes (from bytes after.end))
+        all =
+            ap length (step_places bytes left after callout y.same s)
+            ∙ length-append (places_from callout.first callout.count) (places_before bytes (from bytes after.end))
+            ∙ omega (arith, length_places callout.first callout.count)
+
+        pub fill_count : callouts < length now.counts
+        fill_count = omega (arith, y.counts_room, ap length (step_ends bytes left after callout y.same s))
+
+        pub fill_far : 16 * (callouts + 1) + 32 * (at + callout.count) ≤ length bytes
+        fill_far = omega (arith, y.within, step_far bytes left after callout y.same s)
+
+        pub fill_inside : callout.first + 32 * callout.count ≤ length bytes
+        fill_inside = step_inside bytes left after callout y.same s
+
+        pub fill_room : (counts : List ℕ) → HasRoom (at + callout.count) (with_counts counts now)
+        fill_room counts =
+            record {
+              times = omega (arith, all, y.room.times);
+              counters = omega (arith, all, y.room.counters);
+              session_ids = omega (arith, all, y.room.session_ids);
+              local_indices = omega (arith, all, y.room.local_indices);
+              verdicts = omega (arith, all, y.room.verdicts);
+            }
+
+        pub fill_more : (last : Lists) → last ≡ put_all at (records_at (places_from callout.first callout.count)) (with_counts (set now.counts callouts callout.count) now)
+            → Filling came last after (callouts + 1) (at + callout.count)
+        fill_more last q =
+            let n : ℕ = callout.count in
+            let own : List Record = records_at (places_from callout.first n) in
+            let rest : List Record = records_at (places_before bytes (from bytes after.end)) in
+            let done : last ≡ with_counts (set now.counts callouts n) (put_all at own now) = q ∙ put_counts own at (set now.counts callouts n) now in
+            let size : length own ≡ n = length-map (places_from callout.first n) (λ (place : ℕ). shown hides (record_at bytes place)) ∙ length_places callout.first n in
+            let more : at + length (places_before bytes (from bytes left.end)) ≡ at + n + length (places_before bytes (from bytes after.end)) = omega (arith, all) in
+            let kept : HasRoom (at + n + length (places_before bytes (from bytes after.end))) (put_all at own now) =
+            room_kept own at (at + n + length (places_before bytes (from bytes after.end))) now (rw more at y.room) in
+            record {
+              same = step_same bytes left after callout y.same s;
+              small = y.small;
+              within = omega (arith, y.within, step_far bytes left after callout y.same s);
+              counts_room = rw done (omega (arith, y.counts_room, ap length (step_ends bytes left after callout y.same s), length-set now.counts callouts n));
+              room = rw done record { times = kept.times; counters = kept.counters; session_ids = kept.session_ids; local_indices = kept.local_indices; verdicts = kept.verdicts };
+              told = y.told
+                  ∙ rw (
+                    step_places bytes left after callout y.same s,
+                    step_ends bytes left after callout y.same s,
+                    step_count bytes left after callout y.same s,
+                    map-append (λ (place : ℕ). shown hides (record_at bytes place)) (places_from callout.first n) (places_before bytes (from bytes after.end)),
+                  )
+                  (fill_step (map (count_before bytes) (from bytes after.end)) own rest n callouts at now last size q);
+            }
+
+-- the loop of `read_records`
+pub ruleset puts = (put_begins, put_room, put_ends)

@@ -1,11 +1,14 @@
 -- The logs of specs/Instances.antt, computed; the log that fills its store, by the laws.
 -- Assumes nothing.
+use Rattle.std.specs.Prelude.{Ok}
+use Rattle.error.specs.declared.Error.TheVariants.{InvalidArgument}
+use Rattle.callout_log.specs.Log.{answer_number}
 use mathlib.Core.Path.{◌≡◌, refl, ap, subst, ◌∙◌}
 use mathlib.Core.List.{List, [], ◌∷◌, ◌++◌, append-nil}
 use Prim.Native.Nat.{ℕ, zero, suc, ◌+◌, ◌≤◌}
 use native.Mathlib.Omega.{arith}
 use lib.ListN.{length, drop, replicate, length-append, length-replicate, drop_of_length-le}
-use Rattle.base.specs.Choice.{choose}
+use Rattle.base.specs.Choice.{choose, case_result}
 use Rattle.base.specs.Lists.{up_from, zeros}
 use Rattle.base.proofs.Zeros.{length_zeros}
 use Rattle.endian.specs.LittleEndian.{field, from_le_bytes, to_le_bytes}
@@ -13,10 +16,8 @@ use Rattle.callout_log.specs.declared.record.Record.{Record}
 use Rattle.callout_log.specs.Record.{is_record, is_time, is_verdict, record_at, record_bytes, records_bytes}
 use Rattle.callout_log.specs.Trailer.{count_before, distance, is_trailer, trailer_bytes}
 use Rattle.callout_log.specs.Log.{callout_bytes, ends, ends_before, every, is_store, log_bytes, places, places_before, places_from}
-use Rattle.callout_log.specs.Append.{appended_number, append_answer, append_log, appended_by, appending, beside, case_appended, fitting_answer, records_of, report_at}
-use Rattle.callout_log.specs.Read.{hold_lengths, Lists, Reading, walked_number, listing, lists_of, over, read_bytes, read_log, reading}
-use Rattle.callout_log.specs.declared.append.Appended.TheVariants.{Used}
-use Rattle.callout_log.specs.declared.read.Walked.TheVariants.{Callouts}
+use Rattle.callout_log.specs.Append.{append_answer, append_log, appended_by, appending, beside, fitting_answer, records_of, report_at}
+use Rattle.callout_log.specs.Read.{hold, Lists, Reading, listing, lists_of, over, read_bytes, read_log, reading}
 use Rattle.callout_log.specs.Laws.{All, none, more, Appends, first, next, NotAppended, Report, Room, committed, outside, again, answered, records_in, reports_of}
 use Rattle.callout_log.specs.Instances.{LogInstances, RefusalInstances, after, before, between, again_report, committed_report, exact_lists, full_callouts, one_report, outside_report, two_callouts, two_reports}
 use Rattle.callout_log.proofs.Told.{read_declined}
@@ -25,7 +26,7 @@ use Rattle.callout_log.proofs.Appended.{append_law, store_large}
 use Rattle.callout_log.proofs.Written.{written_law}
 
 -- a log of no callouts
-no_callouts_lem : (l : Lists) → read_log (zeros 3) 0 l ≡ reading (Callouts 0) l
+no_callouts_lem : (l : Lists) → read_log (zeros 3) 0 l ≡ reading (Ok 0) l
 unfolding answered listing over records_in zeros
 no_callouts_lem l =
     written_law.reads (zeros 3) (zeros 3) 0 [] l none first
@@ -33,13 +34,13 @@ no_callouts_lem l =
     (omega arith)
 
 -- a callout of one report behind the front
-first_callout_lem : append_log before 0 (reports_of one_report) ≡ appending (Used 48) between
-unfolding append_log appended_by append_answer beside callout_bytes case_appended choose every fitting_answer is_store is_time is_verdict record_bytes records_bytes records_of report_at reports_of to_le_bytes trailer_bytes up_from zeros
+first_callout_lem : append_log before 0 (reports_of one_report) ≡ appending (Ok 48) between
+unfolding append_log appended_by append_answer beside callout_bytes case_result choose every fitting_answer is_store is_time is_verdict record_bytes records_bytes records_of report_at reports_of to_le_bytes trailer_bytes up_from zeros
 first_callout_lem = refl
 
 -- a callout of two behind it
-second_callout_lem : append_log between 48 (reports_of two_reports) ≡ appending (Used 128) after
-unfolding append_log appended_by append_answer beside callout_bytes case_appended choose every fitting_answer is_store is_time is_verdict record_bytes records_bytes records_of report_at reports_of to_le_bytes trailer_bytes up_from zeros
+second_callout_lem : append_log between 48 (reports_of two_reports) ≡ appending (Ok 128) after
+unfolding append_log appended_by append_answer beside callout_bytes case_result choose every fitting_answer is_store is_time is_verdict record_bytes records_bytes records_of report_at reports_of to_le_bytes trailer_bytes up_from zeros
 second_callout_lem = refl
 
 -- the report of a committed message is a report
@@ -129,12 +130,12 @@ full_room_lem =
     }
 
 -- they read back
-full_read_lem : (l : Lists) → Room full_callouts l → (read_log (log_bytes full_callouts) 65536 l).answer ≡ Callouts 2
+full_read_lem : (l : Lists) → Room full_callouts l → (read_log (log_bytes full_callouts) 65536 l).answer ≡ Ok 2
 unfolding answered
 full_read_lem l room =
     ap (λ (r : Reading). r.answer)
     (written_law.reads (log_bytes full_callouts) (log_bytes full_callouts) 65536 full_callouts l full_reports_lem (full_appends_lem (log_bytes full_callouts) full_size_lem) room (omega (arith, full_size_lem)))
-    ∙ ap Callouts full_count
+    ∙ ap (λ (n : ℕ). Ok n) full_count
 
 -- behind them there is no room for a trailer
 full_end_lem : NotAppended (log_bytes full_callouts) 65536 (reports_of []) 19
@@ -146,7 +147,7 @@ full_end_lem =
 
 -- logs with their bytes written out, and a log that fills its store
 pub log_instances : LogInstances
-unfolding append_log appended_by append_answer beside callout_bytes case_appended choose count_before ends ends_before every field fitting_answer from_le_bytes hold_lengths is_record is_store is_time is_trailer is_verdict listing over places places_before places_from read_bytes read_log record_at record_bytes records_bytes records_of report_at reports_of to_le_bytes trailer_bytes up_from zeros
+unfolding append_log appended_by append_answer beside callout_bytes case_result choose count_before ends ends_before every field fitting_answer from_le_bytes hold is_record is_store is_time is_trailer is_verdict listing over places places_before places_from read_bytes read_log record_at record_bytes records_bytes records_of report_at reports_of to_le_bytes trailer_bytes up_from zeros
 log_instances =
     record {
       no_callouts = no_callouts_lem;
@@ -169,7 +170,7 @@ log_instances =
 
 -- appends and reads that are turned down
 pub refusal_instances : RefusalInstances
-unfolding append_log appended_by append_answer beside case_appended choose count_before ends ends_before every field fitting_answer from_le_bytes hold_lengths is_record is_store is_time is_trailer is_verdict places places_before places_from read_bytes read_log record_at reports_of zeros appended_number walked_number
+unfolding append_log appended_by append_answer beside case_result choose count_before ends ends_before every field fitting_answer from_le_bytes hold is_record is_store is_time is_trailer is_verdict places places_before places_from read_bytes read_log record_at reports_of zeros answer_number
 refusal_instances =
     record {
       late = record { refused = refl; left = refl };
@@ -178,7 +179,7 @@ refusal_instances =
       unequal = record { refused = refl; left = refl };
       unknown = record { refused = refl; left = refl };
       short = record { refused = refl; left = refl };
-      read_large = λ store h. read_declined store 0 exact_lists 2 (rw (store_large (length store) 0 (omega arith)));
+      read_large = λ store h. read_declined store 0 exact_lists InvalidArgument (rw (store_large (length store) 0 (omega arith)));
       read_over_used = record { refused = refl; left = refl };
       cut_trailer = record { refused = refl; left = refl };
       wrong_distance = record { refused = refl; left = refl };

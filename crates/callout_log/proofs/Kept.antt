@@ -1,5 +1,7 @@
 -- A log whose trailers and records keep their rules is the bytes of the callouts that are read from it.
 -- Assumes nothing.
+use Rattle.std.specs.Prelude.{Err}
+use Rattle.error.specs.declared.Error.TheVariants.{InvalidArgument}
 use mathlib.Core.Path.{◌≡◌, refl, ap, sym, subst, ◌∙◌}
 use mathlib.Core.Bool.{Bool, true}
 use mathlib.Core.List.{List, [], ◌∷◌, ◌++◌, map, map-append}
@@ -15,8 +17,7 @@ use Rattle.callout_log.specs.declared.record.Record.{Record}
 use Rattle.callout_log.specs.Record.{is_record, record_at, records_bytes}
 use Rattle.callout_log.specs.Trailer.{count_before, distance, is_trailer, trailer_bytes}
 use Rattle.callout_log.specs.Log.{callout_bytes, ends, ends_before, every, log_bytes, places, places_before, places_from}
-use Rattle.callout_log.specs.Read.{hold_lengths, Lists, hold, read_bytes, reading}
-use Rattle.callout_log.specs.declared.read.Walked.TheVariants.{No}
+use Rattle.callout_log.specs.Read.{Lists, hold, read_bytes, reading}
 use Rattle.callout_log.specs.Laws.{All, none, more, Report, Room, TrailerAt, records_in}
 use Rattle.callout_log.proofs.Copies.{length_places}
 use Rattle.callout_log.proofs.ReadBack.{Reads}
@@ -163,7 +164,7 @@ module _ (log : List ℕ) (trailers : every (is_trailer log) (ends log) ≡ true
 module _ (log : List ℕ) (l : Lists) where
   -- lists that pass the test have room
   pub true_room : hold (length (ends log)) (length (places log)) l ≡ true → Room (callouts_in log) l
-  unfolding hold_lengths places
+  unfolding hold places
   true_room e =
       let many : length (callouts_in log) ≡ length (ends log) = length-map (ends log) (callout_before log) in
       let all : length (records_in (callouts_in log)) ≡ length (places log) =
@@ -190,6 +191,6 @@ module _ (log : List ℕ) (l : Lists) where
 
   -- lists without room are turned down
   pub no_room : every (is_trailer log) (ends log) ≡ true → every (is_record log) (places log) ≡ true → (Room (callouts_in log) l → ⊥)
-      → read_bytes log l ≡ reading (No 2) l
+      → read_bytes log l ≡ reading (Err InvalidArgument) l
   unfolding read_bytes choose
   no_room trailers records h = rw (trailers, records, fails (hold (length (ends log)) (length (places log)) l) (λ e. h (true_room e)))

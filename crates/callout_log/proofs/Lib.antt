@@ -11,6 +11,7 @@ pub mod Hiding
 pub mod Instances
 pub mod Kept
 pub mod Laws
+pub mod Opening
 pub mod Outside
 pub mod Placed
 pub mod ReadBack

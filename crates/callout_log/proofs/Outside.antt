@@ -10,10 +10,9 @@ use lib.ListN.{length, get_or, take, drop, length-drop}
 use lib.Seq.{length-take-le, get_or-take, get_or-drop, ext_get_or}
 use Rattle.base.specs.Choice.{choose, ◌and◌}
 use Rattle.endian.specs.LittleEndian.{field, from_le_bytes}
-use Rattle.callout_log.specs.Record.{is_record, record_at}
+use Rattle.callout_log.specs.Record.{blanked, is_record, record_at}
 use Rattle.callout_log.specs.Trailer.{count_before, distance, is_trailer}
 use Rattle.callout_log.specs.Log.{ends_before, every, places_before, places_from}
-use Rattle.callout_log.specs.ViewLaws.{blanked}
 use Rattle.callout_log.proofs.Hiding.{behind_field, before_field, covered_below, covers, covers_step, in_field, own_span, places_step, up_to, walk_up}
 use Rattle.callout_log.proofs.Kept.{callout_before}
 use Rattle.callout_log.proofs.Tested.{and_true, fails}

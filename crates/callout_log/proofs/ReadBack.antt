@@ -12,7 +12,7 @@ use Rattle.callout_log.specs.declared.record.Record.{Record}
 use Rattle.callout_log.specs.Record.{is_record, record_at, records_bytes}
 use Rattle.callout_log.specs.Trailer.{count_before, distance, is_trailer, trailer_bytes}
 use Rattle.callout_log.specs.Log.{callout_bytes, ends, ends_before, every, log_bytes, places, places_before, places_from}
-use Rattle.callout_log.specs.Read.{hold_lengths, Lists, hold, read_bytes}
+use Rattle.callout_log.specs.Read.{Lists, hold, read_bytes}
 use Rattle.callout_log.specs.Laws.{All, more, Report, Room, answered, records_in}
 use Rattle.callout_log.proofs.Format.{callout_size_lem, records_size}
 use Rattle.callout_log.proofs.Placed.{RecordsAt, count_read, records_read, trailer_good}
@@ -106,7 +106,7 @@ module _ (bytes : List ℕ) where
 
 -- lists with room pass the test
 hold_true : (callouts : List (List Record)) (l : Lists) → Room callouts l → hold (length callouts) (length (records_in callouts)) l ≡ true
-unfolding hold_lengths choose
+unfolding hold choose
 hold_true callouts l room =
     rw (
       le-leb (length callouts) (length l.counts) room.counts,

@@ -1,98 +1,120 @@
--- The ways through `read`.
+-- The ways through `read` and `view`.
 -- Assumes nothing.
 use mathlib.Core.Path.{◌≡◌, refl, ap, sym, ◌∙◌}
-use mathlib.Core.Bool.{Bool, true, false, not, true≢false}
-use mathlib.Core.List.{List, map}
-use Prim.Native.Nat.{ℕ}
-use lib.ListN.{length, take}
+use mathlib.Core.Bool.{Bool, true, false}
+use mathlib.Core.List.{List, ◌++◌, map}
+use Prim.Native.Nat.{ℕ, ◌≤◌, ◌<◌}
+use lib.Dec.{leb}
+use lib.ListN.{length, take, drop}
+use lib.Seq.{length-take-le}
+use borrow.Author.Tests.{leb-true, lt-leb, le-leb}
+use Rattle.std.specs.Prelude.{Result, Ok, Err}
 use Rattle.base.specs.Choice.{choose}
-use Rattle.callout_log.specs.Record.{is_record, record_at}
+use Rattle.error.specs.declared.Error.{Error}
+use Rattle.error.specs.declared.Error.TheVariants.{InvalidArgument, BrokenTrailer, BrokenRecord}
+use Rattle.callout_log.specs.Record.{is_record, record_at, shown}
 use Rattle.callout_log.specs.Trailer.{count_before, is_trailer}
-use Rattle.callout_log.specs.Log.{ends, every, is_store, places}
-use Rattle.callout_log.specs.Read.{Lists, hold, listing, read_bytes, read_log, reading, walked_trailers}
-use Rattle.callout_log.specs.declared.read.Trailers.{Trailers}
-use Rattle.callout_log.specs.declared.read.Trailers.TheVariants.{Broken, Found}
-use Rattle.callout_log.specs.declared.read.Walked.{Walked}
-use Rattle.callout_log.specs.declared.read.Walked.TheVariants.{No, Callouts}
-use Rattle.callout_log.proofs.Appending.{failed, passed}
+use Rattle.callout_log.specs.Log.{ends, every, is_store, opened, places}
+use Rattle.callout_log.specs.Read.{Lists, hold, listing, over, reading}
+use Rattle.callout_log.specs.View.{read_seen, seen, view_bytes, viewing, view_log}
+use Rattle.callout_log.proofs.Shown.{read_as, read_broken, read_shown, seen_length}
+use Rattle.callout_log.proofs.Walk.{both}
 
--- whether a walk has come to the front, and the two numbers it found
-came : Trailers → Bool
-came Broken = false
-came (Found callouts records) = true
+module _ (store : List ℕ) (used : ℕ) where
+  -- the log that stands in the store
+  abbrev log : List ℕ
+  log = take used store
 
-callouts_found : Trailers → ℕ
-callouts_found Broken = 0
-callouts_found (Found callouts records) = callouts
+  -- what opening answers by the tests of the store, the trailers and the records
+  unfoldable opened_by : (stored trailers records : Bool) → Result (List ℕ) Error
+  opened_by stored trailers records = choose stored (choose trailers (choose records (Ok log) (Err BrokenRecord)) (Err BrokenTrailer)) (Err InvalidArgument)
 
-records_found : Trailers → ℕ
-records_found Broken = 0
-records_found (Found callouts records) = records
+  -- what a log that is opened tells
+  pub record Opened (bytes : List ℕ) : Type 0 where
+    pub stored : is_store (length store) used ≡ true
+    pub trailers : every (is_trailer log) (ends log) ≡ true
+    pub records : every (is_record log) (places log) ≡ true
+    pub same : bytes ≡ log
 
--- what a walk tells
-module _ (log : List ℕ) (r : Trailers) (e : r ≡ walked_trailers log) where
-  pub walk_false : r ≡ Broken → every (is_trailer log) (ends log) ≡ false
-  unfolding walked_trailers choose came
-  walk_false q = decide (every (is_trailer log) (ends log)) (sym q ∙ e)
+  pub told : (bytes : List ℕ) → Ok bytes ≡ opened store used → Opened bytes
+  unfolding opened opened_by choose
+  told bytes e = decide (is_store (length store) used) (every (is_trailer log) (ends log)) (every (is_record log) (places log)) refl refl refl e
     where
-      decide : (t : Bool) → Broken ≡ choose t (Found (length (ends log)) (length (places log))) Broken → t ≡ false
-      decide true p = absurd (true≢false (sym (ap came p)))
-      decide false p = refl
+      decide : (s t r : Bool) → is_store (length store) used ≡ s → every (is_trailer log) (ends log) ≡ t → every (is_record log) (places log) ≡ r
+          → Ok bytes ≡ opened_by s t r → Opened bytes
+      decide true true true p q k h = record { stored = p; trailers = q; records = k; same = cc }
+      decide true true false p q k h = cc
+      decide true false r p q k h = cc
+      decide false t r p q k h = cc
 
-  pub read_broken : (l : Lists) → r ≡ Broken → reading (No 17) l ≡ read_bytes log l
-  unfolding read_bytes choose
-  read_broken l q = rw (walk_false q)
-
-  module _ (callouts records : ℕ) (q : r ≡ Found callouts records) where
-    pub walk_good : every (is_trailer log) (ends log) ≡ true
-    unfolding walked_trailers choose came
-    walk_good = decide (every (is_trailer log) (ends log)) (sym q ∙ e)
+  -- a store that is no log turns the read and the view down
+  module _ (error : Error) (e : Err error ≡ opened store used) where
+    pub read_err : (hides : Bool) (l : Lists) → reading (Err error) l ≡ read_seen hides store used l
+    unfolding opened opened_by read_seen read_as choose
+    read_err hides l = decide (is_store (length store) used) (every (is_trailer log) (ends log)) (every (is_record log) (places log)) refl refl refl e
       where
-        decide : (t : Bool) → Found callouts records ≡ choose t (Found (length (ends log)) (length (places log))) Broken → t ≡ true
-        decide true p = refl
-        decide false p = absurd (true≢false (ap came p))
+        decide : (s t r : Bool) → is_store (length store) used ≡ s → every (is_trailer log) (ends log) ≡ t → every (is_record log) (places log) ≡ r
+            → Err error ≡ opened_by s t r → reading (Err error) l ≡ read_seen hides store used l
+        decide true true true p q k h = cc
+        decide true true false p q k h = let same : error ≡ BrokenRecord = cc in rw (same, p, read_shown log q l hides, k)
+        decide true false r p q k h = let same : error ≡ BrokenTrailer = cc in rw (same, p) (read_broken log l hides q)
+        decide false t r p q k h = let same : error ≡ InvalidArgument = cc in rw (same, p)
 
-    found : Found callouts records ≡ Found (length (ends log)) (length (places log))
-    unfolding walked_trailers choose
-    found = sym q ∙ e ∙ rw walk_good
+    pub view_err : (hides : Bool) (bytes : List ℕ) → viewing (Err error) bytes ≡ view_log hides store used bytes
+    unfolding opened opened_by view_log view_bytes choose
+    view_err hides bytes = decide (is_store (length store) used) (every (is_trailer log) (ends log)) (every (is_record log) (places log)) refl refl refl e
+      where
+        decide : (s t r : Bool) → is_store (length store) used ≡ s → every (is_trailer log) (ends log) ≡ t → every (is_record log) (places log) ≡ r
+            → Err error ≡ opened_by s t r → viewing (Err error) bytes ≡ view_log hides store used bytes
+        decide true true true p q k h = cc
+        decide true true false p q k h = let same : error ≡ BrokenRecord = cc in rw (same, p, q, k)
+        decide true false r p q k h = let same : error ≡ BrokenTrailer = cc in rw (same, p, q)
+        decide false t r p q k h = let same : error ≡ InvalidArgument = cc in rw (same, p)
 
-    pub walk_callouts : callouts ≡ length (ends log)
-    unfolding callouts_found
-    walk_callouts = ap callouts_found found
+  -- the ways of an opened log
+  module _ (bytes : List ℕ) (e : Ok bytes ≡ opened store used) (hides : Bool) where
+    module _ (l : Lists) (callouts records : ℕ) (c : callouts ≡ length (ends bytes)) (n : records ≡ length (places bytes)) where
+      room : (flag : Bool) → flag ≡ hold callouts records l → hold (length (ends log)) (length (places log)) l ≡ flag
+      room flag h = sym (h ∙ rw (c, n, (told bytes e).same))
 
-    pub walk_records : records ≡ length (places log)
-    unfolding records_found
-    walk_records = ap records_found found
+      pub read_short : false ≡ hold callouts records l → reading (Err InvalidArgument) l ≡ read_seen hides store used l
+      unfolding read_seen read_as choose
+      read_short h = rw ((told bytes e).stored, read_shown log (told bytes e).trailers l hides, (told bytes e).records, room false h)
 
--- the ways after a walk to the front
-module _ (log : List ℕ) (l : Lists) (good : every (is_trailer log) (ends log) ≡ true) (flag : Bool) (f : flag ≡ every (is_record log) (places log)) where
-  pub read_bad : not flag ≡ true → reading (No 18) l ≡ read_bytes log l
-  unfolding read_bytes choose
-  read_bad t = rw (good, ← f, failed flag t)
+      pub read_good : (left : Lists) → true ≡ hold callouts records l
+          → left ≡ listing (map (count_before bytes) (ends bytes)) (map (λ (place : ℕ). shown hides (record_at bytes place)) (places bytes)) l
+          → reading (Ok callouts) left ≡ read_seen hides store used l
+      unfolding read_seen read_as choose
+      read_good left h q =
+          rw (q, c, (told bytes e).same, (told bytes e).stored, read_shown log (told bytes e).trailers l hides, (told bytes e).records, room true h)
 
-  module _ (callouts records : ℕ) (many : callouts ≡ length (ends log)) (more : records ≡ length (places log)) (t : not flag ≡ false) (room : Bool)
-      (g : room ≡ hold callouts records l) where
-    held : room ≡ hold (length (ends log)) (length (places log)) l
-    held = g ∙ rw (many, more)
+    front : length log ≡ used
+    unfolding is_store
+    front = length-take-le used store (leb-true used (length store) (both (leb (length store) 65536) (leb used (length store)) (told bytes e).stored).1)
 
-    pub read_short : not room ≡ true → reading (No 2) l ≡ read_bytes log l
-    unfolding read_bytes choose
-    read_short u = rw (good, ← f, passed flag t, ← held, failed room u)
+    pub view_short : (lent : List ℕ) → length lent < used → viewing (Err InvalidArgument) lent ≡ view_log hides store used lent
+    unfolding view_log view_bytes choose
+    view_short lent h = rw ((told bytes e).stored, (told bytes e).trailers, (told bytes e).records, front, lt-leb used (length lent) h)
 
-    pub room_found : not room ≡ false → hold (length (ends log)) (length (places log)) l ≡ true
-    room_found u = sym held ∙ passed room u
+    pub view_part : (lent : List ℕ) → used ≤ length lent → length (take used lent) ≡ length bytes
+    view_part lent h = length-take-le used lent h ∙ sym front ∙ ap length (sym (told bytes e).same)
 
-    pub read_good : (left : Lists) → not room ≡ false → left ≡ listing (map (count_before log) (ends log)) (map (record_at log) (places log)) l
-        → reading (Callouts callouts) left ≡ read_bytes log l
-    unfolding read_bytes choose
-    read_good left u p = rw (good, ← f, passed flag t, room_found u, p, many)
+    pub view_good : (lent part : List ℕ) → used ≤ length lent → part ≡ seen hides bytes → viewing (Ok used) (part ++ drop used lent) ≡ view_log hides store used lent
+    unfolding view_log view_bytes over choose
+    view_good lent part h q =
+        rw (
+          q,
+          (told bytes e).same,
+          (told bytes e).stored,
+          (told bytes e).trailers,
+          (told bytes e).records,
+          seen_length log hides (told bytes e).trailers,
+          front,
+          le-leb used (length lent) h,
+        )
 
--- what the test of the store tells
-module _ (store : List ℕ) (used : ℕ) (l : Lists) (flag : Bool) (e : flag ≡ is_store (length store) used) where
-  pub read_no_store : not flag ≡ true → reading (No 2) l ≡ read_log store used l
-  unfolding read_log choose
-  read_no_store t = rw (← e, failed flag t)
+-- the ways through `read`
+pub ruleset reads = (read_err, read_short)
 
-  pub read_store : (left : Lists) (answer : Walked) → not flag ≡ false → reading answer left ≡ read_bytes (take used store) l → reading answer left ≡ read_log store used l
-  unfolding read_log choose
-  read_store left answer t p = p ∙ rw (← e, passed flag t)
+-- the ways through `view`
+pub ruleset views = (view_err, view_short, view_part, view_good)

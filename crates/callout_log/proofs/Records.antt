@@ -5,10 +5,14 @@ use mathlib.Core.Bool.{Bool, true, false}
 use mathlib.Core.List.{List, [], ◌++◌, append-nil, append_assoc}
 use Prim.Native.Nat.{ℕ, ◌+◌, ◌-◌, ◌*◌, ◌/◌, ◌≤◌, ◌<◌}
 use native.Mathlib.Numerals.{add-one}
+use native.Mathlib.Nat.{add-zero}
 use native.Mathlib.Omega.{arith}
-use lib.Dec.{eqb}
+use lib.Dec.{eqb, leb}
 use lib.ListN.{length, get_or, take, drop, length-append, length-drop, drop_of_length-le}
-use lib.Seq.{drop-cons}
+use lib.Seq.{drop-cons, drop-drop, get_or-take, get_or-drop}
+use mir.Val.{Fits}
+use mir.Syntax.{w8}
+use Rattle.std.proofs.lemmas.List.{drop-take, take-take}
 use borrow.Author.Tests.{lt-leb, le-leb, eq-eqb, ne_eqb, eqb-true, eqb-false}
 use borrow.Rule.Slice.PartMut.{put_mid}
 use Rattle.base.specs.Choice.{choose, ◌and◌}
@@ -20,12 +24,21 @@ use Rattle.endian.proofs.Laws.{little_endian_law}
 use Rattle.callout_log.specs.declared.record.Record.{Record}
 use Rattle.callout_log.specs.Record.{record_at, record_bytes, is_time, is_verdict, is_record}
 
--- a number made of the bytes between two places
-pub part_field : (bytes : List ℕ) (n at end width : ℕ) → n ≡ from_le_bytes (take (end - at) (drop at bytes)) → at + width ≡ end → n ≡ field at width bytes
+-- a part of a part of the bytes
+part_of_part : (bytes : List ℕ) (at end from width : ℕ) → from + width ≤ end - at
+    → take width (drop from (take (end - at) (drop at bytes))) ≡ take width (drop (at + from) bytes)
+part_of_part bytes at end from width h =
+    let size : end - at ≡ from + (end - at - from) = omega arith in
+    ap (λ (n : ℕ). take width (drop from (take n (drop at bytes)))) size
+    ∙ ap (take width) (drop-take from (end - at - from) (drop at bytes))
+    ∙ take-take width (end - at - from) (drop from (drop at bytes)) (omega arith)
+    ∙ ap (take width) (drop-drop from at bytes)
+
+-- the number that stands in a part of the bytes
+pub part_field : (bytes : List ℕ) (n at end from width : ℕ) → n ≡ from_le_bytes (take width (drop from (take (end - at) (drop at bytes)))) → from + width ≤ end - at
+    → n ≡ field (at + from) width bytes
 unfolding field
-part_field bytes n at end width e h =
-    let size : end - at ≡ width = omega arith in
-    e ∙ ap (λ (m : ℕ). from_le_bytes (take m (drop at bytes))) size
+part_field bytes n at end from width e h = e ∙ ap from_le_bytes (part_of_part bytes at end from width h)
 
 -- the verdict and the three bytes behind it, as one number
 byte_and_rest : (bytes : List ℕ) (at : ℕ) → at + 4 ≤ length bytes → field at 4 bytes ≡ field at 1 bytes + 256 * field (at + 1) 3 bytes
@@ -67,40 +80,44 @@ verdict_alone b z h = decide (eqb z 0) refl
     decide true e = zero_rest b z (eqb-true z 0 e)
     decide false e = some_rest b z (eqb-false z 0 e) h
 
--- the ways through `is_record`
-module _ (bytes : List ℕ) (at time : ℕ) (t : time ≡ from_le_bytes (take (at + 8 - at) (drop at bytes))) where
-  timed : time ≡ field at 8 bytes
-  timed = part_field bytes time at (at + 8) 8 t refl
+-- the bytes of the record at a place
+module _ (bytes : List ℕ) (at : ℕ) (long : at + 32 ≤ length bytes) where
+  abbrev own : List ℕ
+  own = take (at + 32 - at) (drop at bytes)
 
-  pub record_late : 4000000000000000000 < time → false ≡ is_record bytes at
-  unfolding is_record record_at is_time choose
-  record_late h = rw (← timed, lt-leb time 4000000000000000000 h)
+  own_field : (n from width : ℕ) → n ≡ from_le_bytes (take width (drop from own)) → from + width ≤ 32 → n ≡ field (at + from) width bytes
+  own_field n from width e h = part_field bytes n at (at + 32) from width e (omega arith)
 
-  pub record_told : (word : ℕ) (r : Bool) → ((j : ℕ) → get_or bytes j 0 < 256) → at + 32 ≤ length bytes → time ≤ 4000000000000000000
-      → word ≡ from_le_bytes (take (at + 32 - (at + 28)) (drop (at + 28) bytes)) → r ≡ is_verdict word → r ≡ is_record bytes at
-  unfolding is_record record_at is_time choose
-  record_told word r b l h w e =
-      let whole : word ≡ field (at + 28) 4 bytes = part_field bytes word (at + 28) (at + 32) 4 w (omega arith) in
-      let next : at + 28 + 1 ≡ at + 29 = omega arith in
-      let parts : word ≡ field (at + 28) 1 bytes + 256 * field (at + 29) 3 bytes =
-      whole ∙ byte_and_rest bytes (at + 28) (omega arith) ∙ ap (λ (n : ℕ). field (at + 28) 1 bytes + 256 * field n 3 bytes) next in
-      let byte : field (at + 28) 1 bytes < 256 = rw (one_byte bytes (at + 28) (omega arith)) (b (at + 28)) in
-      e ∙ rw (parts, ← timed, le-leb time 4000000000000000000 h) (verdict_alone (field (at + 28) 1 bytes) (field (at + 29) 3 bytes) byte)
+  first_field : (n : ℕ) → n ≡ from_le_bytes (take 8 own) → n ≡ field at 8 bytes
+  first_field n e = own_field n 0 8 e (omega arith) ∙ ap (λ (m : ℕ). field m 8 bytes) (add-zero at)
 
--- the fields of the record at a place
-pub record_read : (bytes : List ℕ) (at time counter session index : ℕ) → at + 32 ≤ length bytes → time ≡ from_le_bytes (take (at + 8 - at) (drop at bytes))
-    → counter ≡ from_le_bytes (take (at + 16 - (at + 8)) (drop (at + 8) bytes)) → session ≡ from_le_bytes (take (at + 24 - (at + 16)) (drop (at + 16) bytes))
-    → index ≡ from_le_bytes (take (at + 28 - (at + 24)) (drop (at + 24) bytes))
-    → record { time = time; counter = counter; session_id = session; local_index = index; verdict = get_or bytes (at + 28) 0 } ≡ record_at bytes at
-unfolding record_at
-record_read bytes at time counter session index h t c s i =
-    rw (
-      part_field bytes time at (at + 8) 8 t refl,
-      part_field bytes counter (at + 8) (at + 16) 8 c (omega arith),
-      part_field bytes session (at + 16) (at + 24) 8 s (omega arith),
-      part_field bytes index (at + 24) (at + 28) 4 i (omega arith),
-      one_byte bytes (at + 28) (omega arith),
-    )
+  own_verdict : get_or own 28 0 ≡ field (at + 28) 1 bytes
+  own_verdict =
+      get_or-take (at + 32 - at) (drop at bytes) 28 0 (omega arith) ∙ get_or-drop at bytes 28 0 ∙ sym (one_byte bytes (at + 28) (omega arith))
+
+  -- the fields of the record
+  pub record_read : (time counter session index : ℕ) → time ≡ from_le_bytes (take 8 own) → counter ≡ from_le_bytes (take 8 (drop 8 own))
+      → session ≡ from_le_bytes (take 8 (drop 16 own)) → index ≡ from_le_bytes (take 4 (drop 24 own))
+      → record { time = time; counter = counter; session_id = session; local_index = index; verdict = get_or own 28 0 } ≡ record_at bytes at
+  unfolding record_at
+  record_read time counter session index t c s i =
+      rw (first_field time t, own_field counter 8 8 c (omega arith), own_field session 16 8 s (omega arith), own_field index 24 4 i (omega arith), own_verdict)
+
+  -- the ways through `is_record`
+  module _ (time : ℕ) (t : time ≡ from_le_bytes (take 8 own)) where
+    pub record_late : 4000000000000000000 < time → leb time 4000000000000000000 ≡ is_record bytes at
+    unfolding is_record record_at is_time choose
+    record_late h = rw (← first_field time t, lt-leb time 4000000000000000000 h)
+
+    pub record_told : (word : ℕ) (r : Bool) → ((j : ℕ) → Fits w8 (get_or bytes j 0)) → time ≤ 4000000000000000000
+        → word ≡ from_le_bytes (take 4 (drop 28 own)) → r ≡ is_verdict word → r ≡ is_record bytes at
+    unfolding is_record record_at is_time choose
+    record_told word r b h w e =
+        let next : at + 28 + 1 ≡ at + 29 = omega arith in
+        let parts : word ≡ field (at + 28) 1 bytes + 256 * field (at + 29) 3 bytes =
+        own_field word 28 4 w (omega arith) ∙ byte_and_rest bytes (at + 28) (omega arith) ∙ ap (λ (n : ℕ). field (at + 28) 1 bytes + 256 * field n 3 bytes) next in
+        let byte : field (at + 28) 1 bytes < 256 = rw (one_byte bytes (at + 28) (omega arith)) (b (at + 28)).fits in
+        e ∙ rw (parts, ← first_field time t, le-leb time 4000000000000000000 h) (verdict_alone (field (at + 28) 1 bytes) (field (at + 29) 3 bytes) byte)
 
 -- a verdict with three zero bytes behind it
 verdict_bytes : (v : ℕ) → v < 256 → to_le_bytes 4 v ≡ to_le_bytes 1 v ++ zeros 3

@@ -1,5 +1,6 @@
 -- Which logs are turned down, in the order of the numbers.
 -- Assumes nothing.
+use Rattle.error.specs.declared.Error.TheVariants.{InvalidArgument, BrokenTrailer as TrailerBreaks, BrokenRecord as RecordBreaks}
 use mathlib.Core.Path.{◌≡◌, ◌∙◌}
 use mathlib.Core.Bool.{true, false}
 use mathlib.Core.List.{List}
@@ -22,7 +23,7 @@ use Rattle.callout_log.proofs.Told.{read_declined}
 -- a store or a used length that breaks rule 2
 no_store : (store : List ℕ) (used : ℕ) (l : Lists) → is_store (length store) used ≡ false → NotRead store used l 2
 unfolding read_log choose
-no_store store used l e = read_declined store used l 2 (rw e)
+no_store store used l e = read_declined store used l InvalidArgument (rw e)
 
 module _ (store : List ℕ) (used : ℕ) (l : Lists) (b : Bytes store) (size : length store ≤ 65536) (within : used ≤ length store) where
   -- the log that stands in the store
@@ -40,14 +41,14 @@ module _ (store : List ℕ) (used : ℕ) (l : Lists) (b : Bytes store) (size : l
   -- a broken trailer is turned down
   no_trailer : BrokenTrailer log → NotRead store used l 17
   unfolding read_bytes choose
-  no_trailer x = read_declined store used l 17 (read_log_lem store used size within l ∙ rw (trailer_fails log bytes small x))
+  no_trailer x = read_declined store used l TrailerBreaks (read_log_lem store used size within l ∙ rw (trailer_fails log bytes small x))
 
   -- a broken record is turned down where no trailer is broken
   no_record : (BrokenTrailer log → ⊥) → BrokenRecord log → NotRead store used l 18
   unfolding read_bytes choose
   no_record sound x =
       let trailers : every (is_trailer log) (ends log) ≡ true = all_trailers log bytes small sound in
-      read_declined store used l 18 (read_log_lem store used size within l ∙ rw (trailers, record_fails log bytes small trailers x))
+      read_declined store used l RecordBreaks (read_log_lem store used size within l ∙ rw (trailers, record_fails log bytes small trailers x))
 
   -- where nothing is broken the store holds callouts
   sound_store : (BrokenTrailer log → ⊥) → (BrokenRecord log → ⊥) → Held store used l

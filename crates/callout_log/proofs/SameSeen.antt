@@ -1,5 +1,7 @@
 -- Logs that differ only in hidden bytes are seen alike.
 -- Assumes nothing.
+use Rattle.std.specs.Prelude.{Err}
+use Rattle.error.specs.declared.Error.TheVariants.{InvalidArgument}
 use mathlib.Core.Path.{◌≡◌, refl, ap, sym, ◌∙◌}
 use mathlib.Core.Bool.{Bool, true, false, true≢false}
 use mathlib.Core.List.{List}
@@ -14,8 +16,6 @@ use Rattle.callout_log.specs.Log.{ends, every, is_store, places}
 use Rattle.callout_log.specs.Read.{Lists, read_bytes, reading}
 use Rattle.callout_log.specs.View.{hide_all, pointed, read_seen, seen, view_bytes, viewing, view_log}
 use Rattle.callout_log.specs.ViewLaws.{DifferHidden, HiddenByte, SameSeenLaw}
-use Rattle.callout_log.specs.declared.read.Walked.TheVariants.{No as NotWalked}
-use Rattle.callout_log.specs.declared.view.Viewed.TheVariants.{No}
 use Rattle.callout_log.proofs.Broken.{all_trailers}
 use Rattle.callout_log.proofs.Exact.{true_store}
 use Rattle.callout_log.proofs.Hiding.{covers}
@@ -97,21 +97,21 @@ module _ (a b : List ℕ) (used : ℕ) (bytes : Bytes a) (d : DifferHidden a b u
 
   same_views : (lent : List ℕ) → view_log true a used lent ≡ view_log true b used lent
   unfolding view_log choose
-  same_views lent = ap (λ (n : ℕ). choose (is_store n used) (view_bytes true (take used a) lent) (viewing (No 2) lent)) d.size ∙ decide (is_store (length b) used) refl
+  same_views lent = ap (λ (n : ℕ). choose (is_store n used) (view_bytes true (take used a) lent) (viewing (Err InvalidArgument) lent)) d.size ∙ decide (is_store (length b) used) refl
     where
       decide : (t : Bool) → is_store (length b) used ≡ t
-          → choose (is_store (length b) used) (view_bytes true (take used a) lent) (viewing (No 2) lent) ≡ choose (is_store (length b) used) (view_bytes true (take used b) lent) (viewing (No 2) lent)
+          → choose (is_store (length b) used) (view_bytes true (take used a) lent) (viewing (Err InvalidArgument) lent) ≡ choose (is_store (length b) used) (view_bytes true (take used b) lent) (viewing (Err InvalidArgument) lent)
       decide true e = rw e (sym (view_stores (ap (λ (n : ℕ). is_store n used) d.size ∙ e) lent))
       decide false e = rw e refl
 
   same_reads : (l : Lists) → read_seen true a used l ≡ read_seen true b used l
   unfolding read_seen choose
   same_reads l =
-      ap (λ (n : ℕ). choose (is_store n used) (read_bytes (seen true (take used a)) l) (reading (NotWalked 2) l)) d.size ∙ decide (is_store (length b) used) refl
+      ap (λ (n : ℕ). choose (is_store n used) (read_bytes (seen true (take used a)) l) (reading (Err InvalidArgument) l)) d.size ∙ decide (is_store (length b) used) refl
     where
       decide : (t : Bool) → is_store (length b) used ≡ t
-          → choose (is_store (length b) used) (read_bytes (seen true (take used a)) l) (reading (NotWalked 2) l)
-          ≡ choose (is_store (length b) used) (read_bytes (seen true (take used b)) l) (reading (NotWalked 2) l)
+          → choose (is_store (length b) used) (read_bytes (seen true (take used a)) l) (reading (Err InvalidArgument) l)
+          ≡ choose (is_store (length b) used) (read_bytes (seen true (take used b)) l) (reading (Err InvalidArgument) l)
       decide true e = rw e (ap (λ (log : List ℕ). read_bytes log l) (sym (seen_stores (ap (λ (n : ℕ). is_store n used) d.size ∙ e))))
       decide false e = rw e refl
 

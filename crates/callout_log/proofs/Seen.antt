@@ -11,12 +11,11 @@ use Rattle.base.specs.Lists.{zeros}
 use Rattle.base.proofs.Zeros.{zeros_at, length_zeros}
 use Rattle.endian.specs.LittleEndian.{field, from_le_bytes}
 use Rattle.callout_log.specs.declared.record.Record.{Record}
-use Rattle.callout_log.specs.Record.{is_record, record_at}
+use Rattle.callout_log.specs.Record.{blanked, is_record, record_at}
 use Rattle.callout_log.specs.Trailer.{count_before, distance, is_trailer}
 use Rattle.callout_log.specs.Log.{ends, ends_before, every, places, places_before, places_from}
 use Rattle.callout_log.specs.Laws.{records_in}
 use Rattle.callout_log.specs.View.{hide_all}
-use Rattle.callout_log.specs.ViewLaws.{blanked}
 use Rattle.callout_log.proofs.Hiding.{Hidden, all_hidden, covers, covers_step, fits_below, in_field_lem, in_field, second_holds, up_to, walk_up}
 use Rattle.callout_log.proofs.Kept.{callout_before, callouts_in, same_records}
 use Rattle.callout_log.proofs.Outside.{part_is, SameUpTo, same_up_to}

@@ -1,5 +1,6 @@
 -- The views of specs/ViewInstances.antt, computed.
 -- Assumes nothing.
+use Rattle.callout_log.specs.Log.{answer_number}
 use mathlib.Core.Path.{◌≡◌, refl, sym, subst}
 use mathlib.Core.Bool.{Bool, true, false, true≢false}
 use mathlib.Core.List.{List, [], ◌∷◌}
@@ -15,8 +16,8 @@ use Rattle.endian.specs.LittleEndian.{Bytes, field, from_le_bytes, to_le_bytes}
 use Rattle.callout_log.specs.Record.{is_record, is_time, is_verdict, record_at}
 use Rattle.callout_log.specs.Trailer.{count_before, is_trailer, trailer_bytes}
 use Rattle.callout_log.specs.Log.{ends, ends_before, every, is_store, places, places_before, places_from}
-use Rattle.callout_log.specs.Read.{hold_lengths, listing, over, read_bytes}
-use Rattle.callout_log.specs.View.{hide_all, hide_at, pointed, read_seen, seen, view_bytes, view_log, viewed_number}
+use Rattle.callout_log.specs.Read.{hold, listing, over, read_bytes}
+use Rattle.callout_log.specs.View.{hide_all, hide_at, pointed, read_seen, seen, view_bytes, view_log}
 use Rattle.callout_log.specs.Laws.{BrokenTrailer, last}
 use Rattle.callout_log.specs.ViewLaws.{DifferHidden, HiddenByte}
 use Rattle.callout_log.specs.ViewInstances.{ViewInstances}
@@ -68,7 +69,7 @@ differ = record { size = refl; same = λ i h x. decide i x (eqb i 8) refl }
     decide i x false e = sym (get_or-set_other one_bytes 8 i 250 0 (eqb-false i 8 e))
 
 pub view_instances : ViewInstances
-unfolding view_log view_bytes read_seen read_bytes seen pointed hide_all hide_at over is_store ends ends_before every is_trailer count_before places places_before places_from is_record is_time is_verdict record_at field from_le_bytes zeros choose hold_lengths listing viewed_number
+unfolding view_log view_bytes read_seen read_bytes seen pointed hide_all hide_at over is_store ends ends_before every is_trailer count_before places places_before places_from is_record is_time is_verdict record_at field from_le_bytes zeros choose hold listing answer_number
 view_instances =
     record {
       whole = refl;

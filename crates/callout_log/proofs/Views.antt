@@ -1,5 +1,10 @@
 -- What a view answers and leaves, and that a view is a log.
 -- Assumes nothing.
+use Rattle.std.specs.Prelude.{Ok, Err}
+use Rattle.error.specs.declared.Error.{Error}
+use Rattle.error.specs.declared.Error.TheVariants.{InvalidArgument, BrokenTrailer as TrailerBreaks, BrokenRecord as RecordBreaks}
+use Rattle.error.specs.Error.{error_number}
+use Rattle.callout_log.specs.Log.{answer_number, answer_values}
 use mathlib.Core.Path.{◌≡◌, refl, ap, sym, subst, ◌∙◌}
 use mathlib.Core.Bool.{Bool, true, false}
 use mathlib.Core.List.{List, ◌++◌, map}
@@ -12,14 +17,13 @@ use Rattle.base.specs.Choice.{choose}
 use Rattle.base.proofs.Choice.{of_choice}
 use Rattle.endian.specs.LittleEndian.{Bytes}
 use Rattle.callout_log.specs.declared.record.Record.{Record}
-use Rattle.callout_log.specs.Record.{is_record}
+use Rattle.callout_log.specs.Record.{blanked, is_record, record_at}
 use Rattle.callout_log.specs.Trailer.{is_trailer}
 use Rattle.callout_log.specs.Log.{ends, every, is_store, places}
-use Rattle.callout_log.specs.Read.{Lists, Reading, hold, over, read_bytes, read_log, walked_number}
+use Rattle.callout_log.specs.Read.{Lists, Reading, hold, over, read_bytes, read_log}
 use Rattle.callout_log.specs.Laws.{BrokenRecord, BrokenTrailer, Room, Written, answered, records_in}
-use Rattle.callout_log.specs.View.{Viewing, pointed, read_seen, seen, view_bytes, viewed_number, viewed_values, viewing, view_log}
-use Rattle.callout_log.specs.ViewLaws.{HiddenByte, HeldSeen, IsViewed, NotViewed, ReadSeenLaw, ViewLaw, blanked, seen_callouts}
-use Rattle.callout_log.specs.declared.view.Viewed.TheVariants.{No, Bytes as Copied}
+use Rattle.callout_log.specs.View.{Viewing, pointed, read_seen, seen, view_bytes, viewing, view_log}
+use Rattle.callout_log.specs.ViewLaws.{HiddenByte, HeldSeen, IsViewed, NotViewed, ReadSeenLaw, ViewLaw, seen_callouts}
 use Rattle.callout_log.proofs.Appended.{store_large, store_over, store_true}
 use Rattle.callout_log.proofs.Broken.{all_records, all_trailers, led_within, record_fails, trailer_fails}
 use Rattle.callout_log.proofs.Exact.{read as read_callouts, read_log_lem, written as written_log}
@@ -27,17 +31,17 @@ use Rattle.callout_log.proofs.Hiding.{covers}
 use Rattle.callout_log.proofs.HiddenBytes.{hidden_covered, not_hidden}
 use Rattle.callout_log.proofs.Kept.{callouts_in}
 use Rattle.callout_log.proofs.Seen.{hidden, hidden_callouts, hidden_same, records_in_lem}
-use Rattle.callout_log.proofs.Shown.{blank, plain, read_plain, read_seen_lem, seen_broken, seen_length}
+use Rattle.callout_log.proofs.Shown.{read_as, read_hidden, read_plain, seen_broken, seen_length}
 use Rattle.callout_log.proofs.Stands.{take_bytes}
 
-view_declined : (hides : Bool) (store : List ℕ) (used : ℕ) (bytes : List ℕ) (number : ℕ) → view_log hides store used bytes ≡ viewing (No number) bytes
-    → NotViewed hides store used bytes number
-unfolding viewed_number
-view_declined hides store used bytes number e = record { refused = ap (λ (v : Viewing). viewed_number v.answer) e; left = ap (λ (v : Viewing). v.bytes) e }
+view_declined : (hides : Bool) (store : List ℕ) (used : ℕ) (bytes : List ℕ) (error : Error) → view_log hides store used bytes ≡ viewing (Err error) bytes
+    → NotViewed hides store used bytes (error_number error)
+unfolding answer_number
+view_declined hides store used bytes error e = record { refused = ap (λ (v : Viewing). answer_number v.answer) e; left = ap (λ (v : Viewing). v.bytes) e }
 
 no_store : (hides : Bool) (store : List ℕ) (used : ℕ) (bytes : List ℕ) → is_store (length store) used ≡ false → NotViewed hides store used bytes 2
 unfolding view_log choose
-no_store hides store used bytes e = view_declined hides store used bytes 2 (rw e refl)
+no_store hides store used bytes e = view_declined hides store used bytes InvalidArgument (rw e refl)
 
 -- callouts as they are seen, with as many records
 seen_many : (hides : Bool) (callouts : List (List Record)) → length (seen_callouts hides callouts) ≡ length callouts
@@ -111,7 +115,7 @@ module _ (hides : Bool) (store : List ℕ) (used : ℕ) (b : Bytes store) (size 
 
   no_trailer : (bytes : List ℕ) → BrokenTrailer log → NotViewed hides store used bytes 17
   unfolding view_bytes choose
-  no_trailer bytes x = view_declined hides store used bytes 17 (view_log_lem bytes ∙ rw (trailer_fails log log_bytes_lem small x) refl)
+  no_trailer bytes x = view_declined hides store used bytes TrailerBreaks (view_log_lem bytes ∙ rw (trailer_fails log log_bytes_lem small x) refl)
 
   module _ (sound : BrokenTrailer log → ⊥) where
     trailers : every (is_trailer log) (ends log) ≡ true
@@ -119,7 +123,7 @@ module _ (hides : Bool) (store : List ℕ) (used : ℕ) (b : Bytes store) (size 
 
     no_record : (bytes : List ℕ) → BrokenRecord log → NotViewed hides store used bytes 18
     unfolding view_bytes choose
-    no_record bytes x = view_declined hides store used bytes 18 (view_log_lem bytes ∙ rw (trailers, record_fails log log_bytes_lem small trailers x) refl)
+    no_record bytes x = view_declined hides store used bytes RecordBreaks (view_log_lem bytes ∙ rw (trailers, record_fails log log_bytes_lem small trailers x) refl)
 
     module _ (whole : BrokenRecord log → ⊥) where
       records : every (is_record log) (places log) ≡ true
@@ -128,7 +132,7 @@ module _ (hides : Bool) (store : List ℕ) (used : ℕ) (b : Bytes store) (size 
       too_few : (bytes : List ℕ) → length bytes < used → NotViewed hides store used bytes 2
       unfolding view_bytes choose
       too_few bytes h =
-          view_declined hides store used bytes 2 (view_log_lem bytes ∙ rw (trailers, records, lt-leb (length log) (length bytes) (omega (arith, log_long))) refl)
+          view_declined hides store used bytes InvalidArgument (view_log_lem bytes ∙ rw (trailers, records, lt-leb (length log) (length bytes) (omega (arith, log_long))) refl)
 
       -- what is seen, and the log that it is
       abbrev shown : List ℕ
@@ -164,7 +168,7 @@ module _ (hides : Bool) (store : List ℕ) (used : ℕ) (b : Bytes store) (size 
           ∙ ap (λ (c : List (List Record)). answered c l) shown_callouts
 
       module _ (bytes : List ℕ) (enough : used ≤ length bytes) where
-        viewed : view_log hides store used bytes ≡ viewing (Copied used) (shown ++ drop used bytes)
+        viewed : view_log hides store used bytes ≡ viewing (Ok used) (shown ++ drop used bytes)
         unfolding view_bytes over choose
         viewed =
             view_log_lem bytes
@@ -209,11 +213,11 @@ module _ (hides : Bool) (store : List ℕ) (used : ℕ) (b : Bytes store) (size 
             decide false e = ap (λ (k : Bool). get_or (seen k log) i 0) e
 
         is_viewed : IsViewed hides store used bytes left
-        unfolding viewed_number viewed_values
+        unfolding answer_number answer_values
         is_viewed =
             record {
-              number = ap (λ (v : Viewing). viewed_number v.answer) viewed;
-              values = ap (λ (v : Viewing). viewed_values v.answer) viewed;
+              number = ap (λ (v : Viewing). answer_number v.answer) viewed;
+              values = ap (λ (v : Viewing). answer_values v.answer) viewed;
               leaves = refl;
               size = ap length left_is ∙ length-append shown (drop used bytes) ∙ omega (arith, shown_long, length-drop used bytes);
               hidden = hidden_byte;
@@ -253,19 +257,18 @@ module _ (log : List ℕ) (l : Lists) where
   -- and leaves the lists where it is turned down
   record ReadAlike (seen read : Reading) : Type 0 where
     answer : seen.answer ≡ read.answer
-    refused : (walked_number read.answer ≡ 0 → ⊥) → seen.lists ≡ l
+    refused : (answer_number read.answer ≡ 0 → ⊥) → seen.lists ≡ l
 
   good_alike : every (is_trailer log) (ends log) ≡ true → ReadAlike (read_bytes (seen true log) l) (read_bytes log l)
-  unfolding plain blank choose walked_number
+  unfolding read_as choose answer_number
   good_alike good =
-      subst (λ (r : Reading). ReadAlike r (read_bytes log l)) (sym (read_seen_lem log good l))
-      (subst (λ (r : Reading). ReadAlike (blank log good l (every (is_record log) (places log)) (hold (length (ends log)) (length (places log)) l)) r) (sym (read_plain log good l))
-      (decide (every (is_record log) (places log)) (hold (length (ends log)) (length (places log)) l)))
+      rw (read_hidden log good l, read_plain log good l) (decide (every (is_record log) (places log)) (hold (length (ends log)) (length (places log)) l))
     where
-      decide : (a h : Bool) → ReadAlike (blank log good l a h) (plain log good l a h)
+      decide : (kept room : Bool)
+          → ReadAlike (read_as log good l (map blanked (map (record_at log) (places log))) kept room) (read_as log good l (map (record_at log) (places log)) kept room)
       decide true true = record { answer = refl; refused = λ n. absurd (n refl) }
       decide true false = record { answer = refl; refused = λ n. refl }
-      decide false h = record { answer = refl; refused = λ n. refl }
+      decide false room = record { answer = refl; refused = λ n. refl }
 
   broken_alike : every (is_trailer log) (ends log) ≡ false → ReadAlike (read_bytes (seen true log) l) (read_bytes log l)
   unfolding read_bytes choose
@@ -280,10 +283,10 @@ module _ (log : List ℕ) (l : Lists) where
 
   -- a read that is turned down leaves the lists
   Stays : Reading → Type 0
-  Stays r = (walked_number r.answer ≡ 0 → ⊥) → r.lists ≡ l
+  Stays r = (answer_number r.answer ≡ 0 → ⊥) → r.lists ≡ l
 
   read_stays : Stays (read_bytes log l)
-  unfolding read_bytes Stays walked_number
+  unfolding read_bytes Stays answer_number
   read_stays =
       of_choice Stays _ _ _
       (of_choice Stays _ _ _ (of_choice Stays _ _ _ (λ n. absurd (n refl)) (λ n. refl)) (λ n. refl)) (λ n. refl)
@@ -302,7 +305,7 @@ module _ (store : List ℕ) (used : ℕ) (l : Lists) where
   unfolding read_seen read_log seen choose
   whole = refl
 
-  stays : (walked_number (read_log store used l).answer ≡ 0 → ⊥) → (read_log store used l).lists ≡ l
+  stays : (answer_number (read_log store used l).answer ≡ 0 → ⊥) → (read_log store used l).lists ≡ l
   unfolding read_log Stays
   stays = of_choice (Stays (take used store) l) (is_store (length store) used) _ _ (read_stays (take used store) l) (λ n. refl)
 
@@ -310,7 +313,7 @@ module _ (store : List ℕ) (used : ℕ) (l : Lists) where
   seen_answer true = alike.answer
   seen_answer false = ap (λ (r : Reading). r.answer) whole
 
-  seen_refused : (hides : Bool) → (walked_number (read_log store used l).answer ≡ 0 → ⊥) → (read_seen hides store used l).lists ≡ l
+  seen_refused : (hides : Bool) → (answer_number (read_log store used l).answer ≡ 0 → ⊥) → (read_seen hides store used l).lists ≡ l
   seen_refused true n = alike.refused n
   seen_refused false n = ap (λ (r : Reading). r.lists) whole ∙ stays n
 

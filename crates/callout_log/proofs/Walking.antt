@@ -1,29 +1,30 @@
 -- The loops over trailers: where each begins, a turn, and where it ends.
 -- Assumes nothing.
-use mathlib.Core.Path.{◌≡◌, refl, ap, sym, ◌∙◌}
+use mathlib.Core.Path.{◌≡◌, refl, ap, sym, subst, ◌∙◌}
 use mathlib.Core.Bool.{Bool, true, false, true≢false}
 use mathlib.Core.List.{List, [], ◌∷◌, ◌++◌}
-use Prim.Native.Nat.{ℕ, suc, ◌+◌, ◌-◌, ◌*◌, ◌≤◌, ◌<◌}
+use Prim.Native.Nat.{ℕ, ◌+◌, ◌-◌, ◌*◌, ◌≤◌, ◌<◌}
 use native.Mathlib.Nat.{zero-add}
 use native.Mathlib.Omega.{arith}
 use lib.ListN.{length, length-append}
 use Rattle.base.specs.Choice.{choose, ◌and◌}
 use Rattle.callout_log.specs.Record.{is_record}
 use Rattle.callout_log.specs.Trailer.{count_before, distance, is_trailer, trailer_before}
-use Rattle.callout_log.specs.Log.{ends, every, places, places_before, places_from}
-use Rattle.callout_log.specs.Read.{walked_trailers}
-use Rattle.callout_log.specs.declared.trailer.Trailer.{Trailer}
-use Rattle.callout_log.specs.declared.trailer.Trailer.TheVariants.{Broken, Records}
-use Rattle.callout_log.specs.declared.read.Trailers.{Trailers}
-use Rattle.callout_log.specs.declared.read.Trailers.TheVariants.{Broken as NoWalk, Found}
+use Rattle.callout_log.specs.Log.{ends, every, places, places_before, places_from, walked_trailers}
+use Rattle.error.specs.declared.Error.{Error}
+use Rattle.error.specs.declared.Error.TheVariants.{BrokenTrailer}
+use Rattle.std.specs.Prelude.{Result, Ok, Err}
+use Rattle.callout_log.specs.Callouts.{StepsBack}
+use Rattle.callout_log.specs.declared.log.Callout.{Callout}
+use Rattle.callout_log.specs.declared.log.Callouts.{Callouts}
 use Rattle.callout_log.proofs.Copies.{length_places}
 use Rattle.callout_log.proofs.Trailers.{told_records, told_broken, points_back}
 use Rattle.callout_log.proofs.Walk.{both, every_on, from, from_good, from_bad, from_front}
 
 -- what a walk finds that has come to a place with so many callouts and records
-unfoldable pub found : List ℕ → (end callouts records : ℕ) → Trailers
+unfoldable pub found : List ℕ → (end callouts records : ℕ) → Result (ℕ × ℕ) Error
 found bytes end callouts records =
-    choose (every (is_trailer bytes) (from bytes end)) (Found (callouts + length (from bytes end)) (records + length (places_before bytes (from bytes end)))) NoWalk
+    choose (every (is_trailer bytes) (from bytes end)) (Ok (callouts + length (from bytes end), records + length (places_before bytes (from bytes end)))) (Err BrokenTrailer)
 
 -- a walk that has come to a place
 pub record Walking (bytes : List ℕ) (end callouts records : ℕ) : Type 0 where
@@ -36,36 +37,37 @@ module _ (bytes : List ℕ) where
   walk_begins = record { within = omega arith; told = rw (zero-add, zero-add) }
 
   module _ (end callouts records : ℕ) (y : Walking bytes end callouts records) where
-    pub walk_ends : end ≤ 0 → Found callouts records ≡ walked_trailers bytes
+    pub walk_ends : end ≤ 0 → Ok (callouts, records) ≡ walked_trailers bytes
     unfolding found choose every places_before
     walk_ends h =
         let front : end ≡ 0 = omega arith in
         let none : from bytes end ≡ [] = ap (from bytes) front ∙ from_front bytes in
-        sym (y.told ∙ rw none (ap (λ (n : ℕ). Found n (records + 0)) (omega arith) ∙ ap (λ (n : ℕ). Found callouts n) (omega arith)))
+        sym (y.told ∙ rw none (ap (λ (n : ℕ). Ok (n, records + 0)) (omega arith) ∙ ap (λ (n : ℕ). Ok (callouts, n)) (omega arith)))
 
-    module _ (r : Trailer) (e : r ≡ trailer_before bytes end) where
-      pub walk_broken : r ≡ Broken → 0 < end → NoWalk ≡ walked_trailers bytes
-      unfolding found choose every
-      walk_broken q h = sym (y.told ∙ rw (from_bad bytes end h (told_broken bytes end r e q), told_broken bytes end r e q))
+    pub walk_broken : (error : Error) → Err error ≡ trailer_before bytes end → 0 < end → Err error ≡ walked_trailers bytes
+    unfolding found choose every
+    walk_broken error e h =
+        let bad : (is_trailer bytes end ≡ false) × (error ≡ BrokenTrailer) = told_broken bytes end error e in
+        rw bad.1 (sym (y.told ∙ rw (from_bad bytes end h bad.0, bad.0)))
 
-      module _ (n : ℕ) (q : r ≡ Records n) where
-        pub walk_back : 16 + 32 * n ≤ end
-        walk_back = let known : n ≡ count_before bytes end = (told_records bytes end r n e q).1 in omega (arith, known, points_back bytes end (told_records bytes end r n e q).0)
+    module _ (n : ℕ) (e : Ok n ≡ trailer_before bytes end) where
+      pub walk_back : 16 + 32 * n ≤ end
+      walk_back = let known : n ≡ count_before bytes end = (told_records bytes end n e).1 in omega (arith, known, points_back bytes end (told_records bytes end n e).0)
 
-        pub walk_more : 0 < end → Walking bytes (end - (16 + 32 * n)) (callouts + 1) (records + n)
-        unfolding found choose every places_before
-        walk_more h =
-            let good : is_trailer bytes end ≡ true = (told_records bytes end r n e q).0 in
-            let known : count_before bytes end ≡ n = sym (told_records bytes end r n e q).1 in
-            let here : from bytes end ≡ end ∷ from bytes (end - (16 + 32 * n)) = from_good bytes end h good ∙ rw known in
-            record {
-              within = omega (arith, walk_back);
-              told = y.told ∙ rw (here, good, known)
-                  (ap (λ (m : Trailers). choose (every (is_trailer bytes) (from bytes (end - (16 + 32 * n)))) m NoWalk)
-                  (ap (λ (m : ℕ). Found m (records + length (places_from (end - (16 + 32 * n)) n ++ places_before bytes (from bytes (end - (16 + 32 * n)))))) (omega arith)
-                  ∙ ap (λ (m : ℕ). Found (callouts + 1 + length (from bytes (end - (16 + 32 * n)))) m)
-                  (omega (arith, length-append (places_from (end - (16 + 32 * n)) n) (places_before bytes (from bytes (end - (16 + 32 * n)))), length_places (end - (16 + 32 * n)) n))));
-            }
+      pub walk_more : 0 < end → Walking bytes (end - (16 + 32 * n)) (callouts + 1) (records + n)
+      unfolding found choose every places_before
+      walk_more h =
+          let good : is_trailer bytes end ≡ true = (told_records bytes end n e).0 in
+          let known : count_before bytes end ≡ n = sym (told_records bytes end n e).1 in
+          let here : from bytes end ≡ end ∷ from bytes (end - (16 + 32 * n)) = from_good bytes end h good ∙ rw known in
+          record {
+            within = omega (arith, walk_back);
+            told = y.told ∙ rw (here, good, known)
+                (ap (λ (m : Result (ℕ × ℕ) Error). choose (every (is_trailer bytes) (from bytes (end - (16 + 32 * n)))) m (Err BrokenTrailer))
+                (ap (λ (m : ℕ). Ok (m, records + length (places_from (end - (16 + 32 * n)) n ++ places_before bytes (from bytes (end - (16 + 32 * n)))))) (omega arith)
+                ∙ ap (λ (m : ℕ). Ok (callouts + 1 + length (from bytes (end - (16 + 32 * n))), m))
+                (omega (arith, length-append (places_from (end - (16 + 32 * n)) n) (places_before bytes (from bytes (end - (16 + 32 * n)))), length_places (end - (16 + 32 * n)) n))));
+          }
 
 no_good : (bytes : List ℕ) (end : ℕ) → 0 < end → is_trailer bytes end ≡ false → every (is_trailer bytes) (from bytes end) ≡ false
 unfolding every choose
@@ -86,78 +88,83 @@ module _ (bytes : List ℕ) (end : ℕ) (good : every (is_trailer bytes) (from b
       (both (is_trailer bytes end) (every (is_trailer bytes) (from bytes (end - distance (count_before bytes end))))
       (sym (ap (every (is_trailer bytes)) (from_good bytes end h good_here)) ∙ good)).1
 
--- so many records from a place on, tested
-pub record Recorded (bytes : List ℕ) (first count at left : ℕ) : Type 0 where
-  pub within : at + 32 * left ≤ length bytes
-  pub told : every (is_record bytes) (places_from first count) ≡ every (is_record bytes) (places_from at left)
+-- a step back over good trailers
+module _ (bytes : List ℕ) (end : ℕ) (good : every (is_trailer bytes) (from bytes end) ≡ true) (h : end ≡ 0 → ⊥) where
+  pub back_trailer : 16 ≤ end
+  back_trailer = omega (arith, points_back bytes end (good_here bytes end good (omega arith)))
 
-module _ (bytes : List ℕ) (first count : ℕ) where
-  pub record_begins : first + 32 * count ≤ length bytes → Recorded bytes first count first count
-  record_begins h = record { within = h; told = refl }
+  module _ (n : ℕ) (e : n ≡ count_before bytes end) where
+    pub back_far : 16 + 32 * n ≤ end
+    back_far = omega (arith, e, points_back bytes end (good_here bytes end good (omega arith)))
 
-  module _ (at left : ℕ) (y : Recorded bytes first count at left) where
-    pub record_more : (flag : Bool) → 0 < left → flag ≡ is_record bytes at → flag ≡ true → Recorded bytes first count (at + 32) (left - 1)
-    unfolding every places_from choose
-    record_more flag h e t =
-        let one : left ≡ suc (left - 1) = omega arith in
-        record { within = omega (arith, y.within); told = y.told ∙ ap (λ (n : ℕ). every (is_record bytes) (places_from at n)) one ∙ rw (← e, t) }
+    pub back_good : every (is_trailer bytes) (from bytes (end - (16 + 32 * n))) ≡ true
+    back_good = rw e (good_back bytes end good (omega arith))
 
-    pub record_fails : (flag : Bool) → 0 < left → flag ≡ is_record bytes at → flag ≡ false → false ≡ every (is_record bytes) (places_from first count)
-    unfolding every places_from choose
-    record_fails flag h e t =
-        let one : left ≡ suc (left - 1) = omega arith in
-        sym (y.told ∙ ap (λ (n : ℕ). every (is_record bytes) (places_from at n)) one ∙ rw (← e, t))
+-- a step back over the callouts of a log: where the callout stands, and what is left before it
+module _ (bytes : List ℕ) (before after : Callouts) (callout : Callout) (same : before.bytes.now ≡ bytes) (s : StepsBack before callout after) where
+  good : every (is_trailer bytes) (from bytes before.end) ≡ true
+  good = subst (λ (l : List ℕ). every (is_trailer l) (from l before.end) ≡ true) same before.trailers
 
-    pub record_ends : left ≤ 0 → true ≡ every (is_record bytes) (places_from first count)
-    unfolding every places_from
-    record_ends h = let none : left ≡ 0 = omega arith in sym (y.told ∙ rw none)
+  pub step_same : after.bytes.now ≡ bytes
+  step_same = s.same ∙ same
 
--- the records of the callouts behind a place, tested
-pub record Checked (bytes : List ℕ) (end : ℕ) : Type 0 where
-  pub within : end ≤ length bytes
-  pub good : every (is_trailer bytes) (from bytes end) ≡ true
-  pub told : every (is_record bytes) (places bytes) ≡ every (is_record bytes) (places_before bytes (from bytes end))
+  pub step_count : count_before bytes before.end ≡ callout.count
+  step_count = ap (λ (l : List ℕ). count_before l before.end) (sym same) ∙ sym s.count
 
-module _ (bytes : List ℕ) where
-  pub check_begins : every (is_trailer bytes) (ends bytes) ≡ true → Checked bytes (length bytes)
+  pub step_far : after.end + (16 + 32 * callout.count) ≡ before.end
+  step_far = omega (arith, back_far bytes before.end good (λ e. omega (arith, s.behind)) callout.count (sym step_count), s.next, s.first)
+
+  pub step_inside : callout.first + 32 * callout.count ≤ length bytes
+  step_inside = omega (arith, step_far, s.next, before.within, ap length same)
+
+  pub step_ends : from bytes before.end ≡ before.end ∷ from bytes after.end
+  step_ends =
+      let place : before.end - distance callout.count ≡ after.end = sym (s.next ∙ s.first) in
+      from_good bytes before.end s.behind (good_here bytes before.end good s.behind) ∙ rw (step_count, place)
+
+  pub step_places : places_before bytes (from bytes before.end) ≡ places_from callout.first callout.count ++ places_before bytes (from bytes after.end)
+  unfolding places_before
+  step_places = ap (places_before bytes) step_ends ∙ rw (step_count, ← s.first)
+
+-- the records of the callouts that were come by, tested
+pub record Checked (bytes : List ℕ) (left : Callouts) : Type 0 where
+  pub same : left.bytes.now ≡ bytes
+  pub told : every (is_record bytes) (places bytes) ≡ every (is_record bytes) (places_before bytes (from bytes left.end))
+
+module _ (bytes : List ℕ) (left : Callouts) where
+  pub check_begins : left.bytes.now ≡ bytes → left.end ≡ length bytes → Checked bytes left
   unfolding ends places
-  check_begins g = record { within = omega arith; good = g; told = refl }
+  check_begins s e = record { same = s; told = rw e }
 
-  module _ (end : ℕ) (y : Checked bytes end) where
-    pub check_ends : end ≤ 0 → true ≡ every (is_record bytes) (places bytes)
+  module _ (y : Checked bytes left) where
+    pub check_ends : left.end ≡ 0 → true ≡ every (is_record bytes) (places bytes)
     unfolding every places_before
-    check_ends h =
-        let front : end ≡ 0 = omega arith in
-        sym (y.told ∙ rw (ap (from bytes) front ∙ from_front bytes))
+    check_ends e = sym (y.told ∙ rw (ap (from bytes) e ∙ from_front bytes))
 
-    pub check_eight : 0 < end → 8 ≤ end
-    check_eight h = omega (arith, points_back bytes end (good_here bytes end y.good h))
-
-    module _ (n : ℕ) (h : 0 < end) (e : n ≡ count_before bytes end) where
-      pub check_back : 16 + 32 * n ≤ end
-      check_back = omega (arith, e, points_back bytes end (good_here bytes end y.good h))
-
-      pub check_room : end - (16 + 32 * n) + 32 * n ≤ length bytes
-      check_room = omega (arith, check_back, y.within)
-
+    module _ (callout : Callout) (after : Callouts) (s : StepsBack left callout after) where
       parts : every (is_record bytes) (places bytes)
-          ≡ every (is_record bytes) (places_from (end - (16 + 32 * n)) n) and every (is_record bytes) (places_before bytes (from bytes (end - (16 + 32 * n))))
-      unfolding places_before
+          ≡ every (is_record bytes) (places_from callout.first callout.count) and every (is_record bytes) (places_before bytes (from bytes after.end))
       parts =
           y.told
-          ∙ ap (λ (l : List ℕ). every (is_record bytes) (places_before bytes l)) (from_good bytes end h (good_here bytes end y.good h))
-          ∙ rw (← e) (every_on (is_record bytes) (places_from (end - (16 + 32 * n)) n) (places_before bytes (from bytes (end - (16 + 32 * n)))))
+          ∙ ap (every (is_record bytes)) (step_places bytes left after callout y.same s)
+          ∙ every_on (is_record bytes) (places_from callout.first callout.count) (places_before bytes (from bytes after.end))
 
-      module _ (flag : Bool) (f : flag ≡ every (is_record bytes) (places_from (end - (16 + 32 * n)) n)) where
-        pub check_more : flag ≡ true → Checked bytes (end - (16 + 32 * n))
-        unfolding choose
-        check_more t =
-            record {
-              within = omega (arith, y.within);
-              good = rw e (good_back bytes end y.good h);
-              told = parts ∙ rw (← f, t);
-            }
+      pub check_inside : callout.first + 32 * callout.count ≤ length bytes
+      check_inside = step_inside bytes left after callout y.same s
 
-        pub check_fails : flag ≡ false → false ≡ every (is_record bytes) (places bytes)
-        unfolding choose
-        check_fails t = sym (parts ∙ rw (← f, t))
+      pub check_more : true ≡ every (is_record bytes) (places_from callout.first callout.count) → Checked bytes after
+      unfolding choose
+      check_more t = record { same = step_same bytes left after callout y.same s; told = parts ∙ rw (← t) }
+
+      pub check_fails : false ≡ every (is_record bytes) (places_from callout.first callout.count) → false ≡ every (is_record bytes) (places bytes)
+      unfolding choose
+      check_fails t = sym (parts ∙ rw (← t))
+
+-- the loop of `walk`
+pub ruleset walks = (walk_begins, walk_back, walk_more, walk_ends)
+
+-- a step of the callouts
+pub ruleset steps = (back_trailer, back_far, back_good)
+
+-- the loop of `are_callouts`
+pub ruleset checks = (check_begins, check_more, check_ends)

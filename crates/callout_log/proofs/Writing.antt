@@ -74,3 +74,6 @@ module _ (r : Reports) (came : List ℕ) where
         y.left
         ∙ rw (all, drop_of_length-le came {i = 32 * length r.times} (omega (arith, y.whole)))
         (append-nil (records_bytes (map (report_at r) (up_from 0 (length r.times)))))
+
+-- the loop of `write_records`
+pub ruleset writes = (write_begins, write_more, write_ends)

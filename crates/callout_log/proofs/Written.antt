@@ -1,5 +1,8 @@
 -- Callouts appended one after another: none is turned down where they fit, what they leave, and that it reads back.
 -- Assumes nothing.
+use Rattle.std.specs.Prelude.{Result, Ok, Err}
+use Rattle.error.specs.declared.Error.{Error}
+use Rattle.error.specs.declared.Error.TheVariants.{InvalidTime, InvalidArgument, StoreFull}
 use mathlib.Core.Path.{◌≡◌, refl, ap, sym, ◌∙◌}
 use mathlib.Core.List.{List, [], ◌∷◌, ◌++◌, map}
 use Prim.Native.Nat.{ℕ, ◌+◌, ◌≤◌}
@@ -13,12 +16,10 @@ use borrow.Author.Tests.{leb-true}
 use Rattle.callout_log.specs.declared.record.Record.{Record}
 use Rattle.callout_log.specs.Trailer.{distance}
 use Rattle.callout_log.specs.Log.{callout_bytes, log_bytes}
-use Rattle.callout_log.specs.Append.{Appending, OneLength, Reports, append_answer, append_log, appended_by, appending, case_appended, fitting_answer, records_of}
+use Rattle.callout_log.specs.Append.{Appending, OneLength, Reports, append_answer, append_log, appended_by, appending, fitting_answer, records_of}
 use Rattle.callout_log.specs.Read.{Lists, read_log}
-use Rattle.callout_log.specs.declared.append.Appended.{Appended}
-use Rattle.callout_log.specs.declared.append.Appended.TheVariants.{No, Used}
 use Rattle.callout_log.specs.Laws.{All, none, more, Appends, first, next, Report, Room, Timely, Verdict, WrittenLaw, answered, reports_of}
-use Rattle.callout_log.proofs.Told.{answer_values, answer_lists}
+use Rattle.callout_log.proofs.Told.{values_answered, answer_lists}
 use Rattle.callout_log.proofs.Format.{callout_size_lem}
 use Rattle.callout_log.proofs.Appended.{fits_good, append_law, appended, store_true}
 use Rattle.callout_log.proofs.ReadBack.{log_read}
@@ -58,25 +59,25 @@ module _ (callout : List Record) where
   lists_size = ap distance (length-map callout (λ (r : Record). r.time)) ∙ sym (callout_size_lem callout)
 
 -- an append that answers a used length answers that behind the callout, which is in the store
-answer_used : (size used end : ℕ) (r : Reports) → append_answer size used r ≡ Used end
+answer_used : (size used end : ℕ) (r : Reports) → append_answer size used r ≡ Ok end
     → (end ≡ used + distance (length r.times)) × (used + distance (length r.times) ≤ size)
-unfolding append_answer fitting_answer case_appended
+unfolding append_answer fitting_answer
 answer_used size used end r =
-    of_choice P _ _ _ (of_choice P _ _ _ (of_choice P _ _ _ (of_choice P _ _ _ fits (no 2)) (no 2)) (no 2)) (no 1)
+    of_choice P _ _ _ (of_choice P _ _ _ (of_choice P _ _ _ (of_choice P _ _ _ fits (no InvalidArgument)) (no InvalidArgument)) (no InvalidArgument)) (no InvalidTime)
   where
     to : ℕ
     to = used + distance (length r.times)
 
-    P : Appended → Type 0
-    P answer = answer ≡ Used end → (end ≡ to) × (to ≤ size)
+    P : Result ℕ Error → Type 0
+    P answer = answer ≡ Ok end → (end ≡ to) × (to ≤ size)
 
-    no : (number : ℕ) → P (No number)
-    no number e = absurd (let z : ◌≡◌ {A = ℕ} 0 1 = ap (λ (a : Appended). case_appended a (λ (n : ℕ). 1) 0) e in omega arith)
+    no : (error : Error) → P (Err error)
+    no error e = cc
 
-    fits : P (choose (leb to size) (Used to) (No 19))
+    fits : P (choose (leb to size) (Ok to) (Err StoreFull))
     fits =
-        known_choice P (leb to size) (Used to) (No 19)
-        (λ t e. (ap (λ (a : Appended). case_appended a (λ (n : ℕ). n) 0) (sym e), leb-true to size t)) (λ t. no 19)
+        known_choice P (leb to size) (Ok to) (Err StoreFull)
+        (λ t e. (cc, leb-true to size t)) (λ t. no StoreFull)
 
 module _ (store : List ℕ) where
   -- the store that holds a log in its front
@@ -112,13 +113,13 @@ module _ (store : List ℕ) where
     -- the next callout is appended where it fits
     next_fits : All Report callout → length store ≤ 65536 → length (log_bytes (callout ∷ older)) ≤ length store
         → append_log (filled (log_bytes older)) (length (log_bytes older)) (reports_of callout)
-        ≡ appending (Used (length (log_bytes (callout ∷ older)))) (filled (log_bytes (callout ∷ older)))
+        ≡ appending (Ok (length (log_bytes (callout ∷ older)))) (filled (log_bytes (callout ∷ older)))
     next_fits reports size within =
         let log : List ℕ = log_bytes older in
         let same : length (filled log) ≡ length store = filled_size log (omega (arith, end_size)) in
         fits_good (filled log) (length log) (reports_of callout) (all_timely callout reports) (omega arith) (one_length callout) (all_verdicts callout reports)
         (omega (arith, end_size))
-        ∙ λ j. appending (Used (end_size j)) (next_filled (length log + distance (length (reports_of callout).times)) refl j)
+        ∙ λ j. appending (Ok (end_size j)) (next_filled (length log + distance (length (reports_of callout).times)) refl j)
 
   -- callouts of reports that fit are appended, none turned down
   fits : (callouts : List (List Record)) → All (All Report) callouts → length store ≤ 65536 → length (log_bytes callouts) ≤ length store
@@ -136,10 +137,10 @@ module _ (store : List ℕ) where
 
   module _ (callout : List Record) (older : List (List Record)) (left after : List ℕ) (used end : ℕ) where
     -- what one more append leaves
-    next_made : Made older left used → append_log left used (reports_of callout) ≡ appending (Used end) after → Made (callout ∷ older) after end
+    next_made : Made older left used → append_log left used (reports_of callout) ≡ appending (Ok end) after → Made (callout ∷ older) after end
     unfolding append_log appended_by
     next_made m e =
-        let answer : append_answer (length left) used (reports_of callout) ≡ Used end = ap (λ (a : Appending). a.answer) e in
+        let answer : append_answer (length left) used (reports_of callout) ≡ Ok end = ap (λ (a : Appending). a.answer) e in
         let found : (end ≡ used + distance (length (reports_of callout).times)) × (used + distance (length (reports_of callout).times) ≤ length left) =
         answer_used (length left) used end (reports_of callout) answer in
         let same : length left ≡ length store = ap length m.bytes ∙ filled_size (log_bytes older) m.within in
@@ -175,6 +176,6 @@ written_law =
       fits = fits;
       made = λ store left used callouts a. ((all_made store callouts left used a).size, (all_made store callouts left used a).bytes);
       reads = λ store left used callouts l all a. reads store left used callouts l all (all_made store callouts left used a);
-      answers = answer_values;
+      answers = values_answered;
       lists = answer_lists;
     }

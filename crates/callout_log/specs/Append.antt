@@ -1,13 +1,14 @@
 -- Appending a callout: what it answers and what it leaves.
-use Rattle.std.specs.Prelude.{◌≡◌, Bool, List, [], ◌∷◌, ◌++◌, map, ℕ, ◌+◌, leb, eqb, length, get_or, take, drop}
-use Rattle.base.specs.Choice.{choose, ◌and◌}
+use Rattle.std.specs.Prelude.{◌≡◌, Bool, List, ◌++◌, map, ℕ, ◌+◌, leb, eqb, length, get_or, take, drop, Result, Ok, Err}
+use Rattle.base.specs.Choice.{choose, case_result, ◌and◌}
 use Rattle.base.specs.Lists.{up_from}
 use Rattle.callout_log.specs.declared.record.Record.{Record}
 use Rattle.callout_log.specs.Record.{is_time, is_verdict}
 use Rattle.callout_log.specs.Trailer.{distance}
 use Rattle.callout_log.specs.Log.{callout_bytes, every, is_store}
-use Rattle.callout_log.specs.declared.append.Appended.{Appended}
-use Rattle.callout_log.specs.declared.append.Appended.TheVariants.{No, Used}
+use Rattle.callout_log.specs.declared.append.Reports.{Reports as Lent}
+use Rattle.error.specs.declared.Error.{Error}
+use Rattle.error.specs.declared.Error.TheVariants.{InvalidTime, InvalidArgument, StoreFull}
 
 -- The reports of a callout, in five lists side by side.
 pub record Reports : Type 0 where
@@ -21,6 +22,10 @@ pub record Reports : Type 0 where
 abbrev pub reports_in : (times counters session_ids local_indices verdicts : List ℕ) → Reports
 reports_in times counters session_ids local_indices verdicts =
     record { times = times; counters = counters; session_ids = session_ids; local_indices = local_indices; verdicts = verdicts }
+
+-- what lent reports hold
+abbrev pub reported : Lent → Reports
+reported r = reports_in r.times.now r.counters.now r.session_ids.now r.local_indices.now r.verdicts.now
 
 -- Five lists are of one length.
 pub record OneLength (r : Reports) : Type 0 where
@@ -54,49 +59,33 @@ records_of r = map (report_at r) (up_from 0 (length r.times))
 
 -- What a call of append answers, and the store it leaves.
 pub record Appending : Type 0 where
-  pub answer : Appended
+  pub answer : Result ℕ Error
   pub store : List ℕ
 
 -- this answer and store
-abbrev pub appending : Appended → List ℕ → Appending
+abbrev pub appending : Result ℕ Error → List ℕ → Appending
 appending answer store = record { answer = answer; store = store }
 
--- the new used length, or 19 where the free end is too short
-unfoldable pub fitting_answer : (size used count : ℕ) → Appended
-fitting_answer size used count = choose (leb (used + distance count) size) (Used (used + distance count)) (No 19)
+-- the new used length, or StoreFull where the free end is too short
+unfoldable pub fitting_answer : (size used count : ℕ) → Result ℕ Error
+fitting_answer size used count = choose (leb (used + distance count) size) (Ok (used + distance count)) (Err StoreFull)
 
--- what an append to a store of so many bytes answers: 1 for a time, 2 for the store, the lists or a verdict, then 19
-unfoldable pub append_answer : (size used : ℕ) → Reports → Appended
+-- what an append to a store of so many bytes answers: InvalidTime, then InvalidArgument for the store, the lists or a verdict, then StoreFull
+unfoldable pub append_answer : (size used : ℕ) → Reports → Result ℕ Error
 append_answer size used r =
     choose (every is_time r.times)
     (choose (is_store size used)
     (choose (beside r)
-    (choose (every is_verdict r.verdicts) (fitting_answer size used (length r.times)) (No 2))
-    (No 2))
-    (No 2))
-    (No 1)
-
-module _ {A : Type 0} where
-  -- one value for a new used length, another for a call turned down
-  unfoldable pub case_appended : Appended → (ℕ → A) → A → A
-  case_appended (No number) f z = z
-  case_appended (Used used) f z = f used
+    (choose (every is_verdict r.verdicts) (fitting_answer size used (length r.times)) (Err InvalidArgument))
+    (Err InvalidArgument))
+    (Err InvalidArgument))
+    (Err InvalidTime)
 
 -- an answer with the store that it leaves: the callout's bytes from the old to the new used length, all others as they came
-unfoldable pub appended_by : Appended → List ℕ → (used : ℕ) → Reports → Appending
+unfoldable pub appended_by : Result ℕ Error → List ℕ → (used : ℕ) → Reports → Appending
 appended_by answer store used r =
-    appending answer (case_appended answer (λ (end : ℕ). take used store ++ callout_bytes (records_of r) ++ drop end store) store)
+    appending answer (case_result answer (λ (error : Error). store) (λ (end : ℕ). take used store ++ callout_bytes (records_of r) ++ drop end store))
 
 -- what an append answers and leaves; of the store it looks at the length only
 unfoldable pub append_log : List ℕ → (used : ℕ) → Reports → Appending
 append_log store used r = appended_by (append_answer (length store) used r) store used r
-
--- the number that turns an append down, or 0
-unfoldable pub appended_number : Appended → ℕ
-appended_number (No number) = number
-appended_number (Used used) = 0
-
--- the values of an append: the new used length; none of one turned down
-unfoldable pub appended_values : Appended → List ℕ
-appended_values (No number) = []
-appended_values (Used used) = used ∷ []

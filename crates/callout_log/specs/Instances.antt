@@ -1,13 +1,11 @@
 -- Logs with their bytes written out: no callouts, a trailer alone, two callouts, and a full store.
-use Rattle.std.specs.Prelude.{◌≡◌, List, [], ◌∷◌, ◌++◌, ℕ, drop, length, replicate, set}
+use Rattle.std.specs.Prelude.{◌≡◌, List, [], ◌∷◌, ◌++◌, ℕ, drop, length, replicate, set, Ok}
 use Rattle.base.specs.Lists.{zeros}
 use Rattle.callout_log.specs.declared.record.Record.{Record}
 use Rattle.callout_log.specs.Log.{log_bytes}
 use Rattle.callout_log.specs.Append.{appending, append_log, reports_in}
 use Rattle.callout_log.specs.Read.{Lists, lists_of, reading, read_log}
 use Rattle.callout_log.specs.Laws.{All, Appends, NotAppended, NotRead, Report, Room, reports_of}
-use Rattle.callout_log.specs.declared.append.Appended.TheVariants.{Used}
-use Rattle.callout_log.specs.declared.read.Walked.TheVariants.{Callouts}
 
 -- a trailer alone
 abbrev pub empty_bytes : List ℕ
@@ -75,24 +73,24 @@ full_callouts = replicate 1024 outside_report ∷ replicate 1023 outside_report 
 
 -- Appends and reads of logs with their bytes written out, and of a log that fills its store.
 pub record LogInstances : Type 0 where
-  pub no_callouts : (l : Lists) → read_log (zeros 3) 0 l ≡ reading (Callouts 0) l
-  pub trailer_alone : append_log (zeros 16) 0 (reports_of []) ≡ appending (Used 16) empty_bytes
-  pub trailer_read : read_log empty_bytes 16 (lists_of (7 ∷ []) [] [] [] [] []) ≡ reading (Callouts 1) (lists_of (0 ∷ []) [] [] [] [] [])
-  pub first_callout : append_log before 0 (reports_of one_report) ≡ appending (Used 48) between
-  pub second_callout : append_log between 48 (reports_of two_reports) ≡ appending (Used 128) after
+  pub no_callouts : (l : Lists) → read_log (zeros 3) 0 l ≡ reading (Ok 0) l
+  pub trailer_alone : append_log (zeros 16) 0 (reports_of []) ≡ appending (Ok 16) empty_bytes
+  pub trailer_read : read_log empty_bytes 16 (lists_of (7 ∷ []) [] [] [] [] []) ≡ reading (Ok 1) (lists_of (0 ∷ []) [] [] [] [] [])
+  pub first_callout : append_log before 0 (reports_of one_report) ≡ appending (Ok 48) between
+  pub second_callout : append_log between 48 (reports_of two_reports) ≡ appending (Ok 128) after
   pub reports : All (All Report) two_callouts
   pub appends : Appends before two_callouts after 128
   pub room : Room two_callouts exact_lists
   pub exact_read : read_log after 128 exact_lists
-      ≡ reading (Callouts 2)
+      ≡ reading (Ok 2)
       (lists_of (2 ∷ 1 ∷ []) (4000000000000000000 ∷ 258 ∷ 1 ∷ []) (18446744073709551615 ∷ 65536 ∷ 2 ∷ []) (256 ∷ 18446744073709551615 ∷ 3 ∷ []) (4294967295 ∷ 16909060 ∷ 4 ∷ []) (0 ∷ 10 ∷ 9 ∷ []))
   pub rest_kept : read_log one_bytes 48 (lists_of (21 ∷ 22 ∷ []) (23 ∷ 24 ∷ 25 ∷ []) (26 ∷ []) (27 ∷ []) (28 ∷ []) (29 ∷ []))
-      ≡ reading (Callouts 1) (lists_of (1 ∷ 22 ∷ []) (1 ∷ 24 ∷ 25 ∷ []) (2 ∷ []) (3 ∷ []) (4 ∷ []) (9 ∷ []))
+      ≡ reading (Ok 1) (lists_of (1 ∷ 22 ∷ []) (1 ∷ 24 ∷ 25 ∷ []) (2 ∷ []) (3 ∷ []) (4 ∷ []) (9 ∷ []))
   pub full_size : length (log_bytes full_callouts) ≡ 65536
   pub full_reports : All (All Report) full_callouts
   pub full_appends : (store : List ℕ) → length store ≡ 65536 → Appends store full_callouts (log_bytes full_callouts) 65536
   pub full_room : Room full_callouts (lists_of (zeros 2) (zeros 2047) (zeros 2047) (zeros 2047) (zeros 2047) (zeros 2047))
-  pub full_read : (l : Lists) → Room full_callouts l → (read_log (log_bytes full_callouts) 65536 l).answer ≡ Callouts 2
+  pub full_read : (l : Lists) → Room full_callouts l → (read_log (log_bytes full_callouts) 65536 l).answer ≡ Ok 2
   pub full_end : NotAppended (log_bytes full_callouts) 65536 (reports_of []) 19
 
 -- Appends and reads that are turned down, each by the first number in order.

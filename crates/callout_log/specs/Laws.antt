@@ -1,14 +1,12 @@
 -- What document 02's note 3 says of the callout log, in its own numbers.
-use Rattle.std.specs.Prelude.{◌≡◌, List, [], ◌∷◌, ◌++◌, map, ℕ, ◌+◌, ◌-◌, ◌*◌, ◌/◌, ◌%◌, ◌^◌, ◌≤◌, ◌<◌, length, get_or, take, drop}
+use Rattle.std.specs.Prelude.{◌≡◌, List, [], ◌∷◌, ◌++◌, map, ℕ, ◌+◌, ◌-◌, ◌*◌, ◌/◌, ◌%◌, ◌^◌, ◌≤◌, ◌<◌, length, get_or, take, drop, Ok}
 use Rattle.endian.specs.LittleEndian.{Bytes}
 use Rattle.callout_log.specs.declared.record.Record.{Record}
 use Rattle.callout_log.specs.Record.{record_bytes}
 use Rattle.callout_log.specs.Trailer.{trailer_bytes}
-use Rattle.callout_log.specs.Log.{callout_bytes, log_bytes}
-use Rattle.callout_log.specs.Append.{OneLength, Reports, appended_number, appended_values, appending, append_log, records_of}
-use Rattle.callout_log.specs.Read.{Lists, Reading, listing, reading, read_log, walked_number, walked_values}
-use Rattle.callout_log.specs.declared.append.Appended.TheVariants.{Used}
-use Rattle.callout_log.specs.declared.read.Walked.TheVariants.{Callouts}
+use Rattle.callout_log.specs.Log.{answer_number, answer_values, callout_bytes, log_bytes}
+use Rattle.callout_log.specs.Append.{OneLength, Reports, appending, append_log, records_of}
+use Rattle.callout_log.specs.Read.{Lists, Reading, listing, reading, read_log}
 
 module _ {A : Type 0} (P : A → Type 0) where
   -- It holds of every element.
@@ -67,13 +65,13 @@ reports_of records =
 
 -- An append is turned down by a number, and the store is as it came.
 pub record NotAppended (store : List ℕ) (used : ℕ) (r : Reports) (number : ℕ) : Type 0 where
-  pub refused : appended_number (append_log store used r).answer ≡ number
+  pub refused : answer_number (append_log store used r).answer ≡ number
   pub left : (append_log store used r).store ≡ store
 
 -- An append is good, with this new used length and this store.
 pub record IsAppended (store : List ℕ) (used : ℕ) (r : Reports) (end : ℕ) (after : List ℕ) : Type 0 where
-  pub number : appended_number (append_log store used r).answer ≡ 0
-  pub values : appended_values (append_log store used r).answer ≡ end ∷ []
+  pub number : answer_number (append_log store used r).answer ≡ 0
+  pub values : answer_values (append_log store used r).answer ≡ end ∷ []
   pub left : (append_log store used r).store ≡ after
 
 -- What an append answers, in the order 1, 2, 19, and the bytes that it writes: those of the callout, from the old to the new used length.
@@ -94,7 +92,7 @@ pub record AppendLaw : Type 0 where
 pub data Appends (store : List ℕ) : List (List Record) → List ℕ → ℕ → Type 0 where
   first : Appends store [] store 0
   next : {older : List (List Record)} {left after : List ℕ} {used end : ℕ} (callout : List Record) → Appends store older left used
-      → append_log left used (reports_of callout) ≡ appending (Used end) after
+      → append_log left used (reports_of callout) ≡ appending (Ok end) after
       → Appends store (callout ∷ older) after end
 
 -- the records of callouts, those of the last callout first, and of each front to back
@@ -114,7 +112,7 @@ pub record Room (callouts : List (List Record)) (l : Lists) : Type 0 where
 -- what reading callouts answers and leaves: how many they are, the records of each, and all records
 unfoldable pub answered : List (List Record) → Lists → Reading
 answered callouts l =
-    reading (Callouts (length callouts)) (listing (map (λ (c : List Record). length c) callouts) (records_in callouts) l)
+    reading (Ok (length callouts)) (listing (map (λ (c : List Record). length c) callouts) (records_in callouts) l)
 
 -- The lists after callouts were read: the number of records of each callout, then all records, from the front of each list, whose rest is as it came.
 pub record Listed (callouts : List (List Record)) (l left : Lists) : Type 0 where
@@ -133,7 +131,7 @@ pub record WrittenLaw : Type 0 where
       → (used ≡ length (log_bytes callouts)) × (left ≡ log_bytes callouts ++ drop (length (log_bytes callouts)) store)
   pub reads : (store left : List ℕ) (used : ℕ) (callouts : List (List Record)) (l : Lists) → All (All Report) callouts → Appends store callouts left used → Room callouts l
       → length store ≤ 65536 → read_log left used l ≡ answered callouts l
-  pub answers : (callouts : List (List Record)) (l : Lists) → walked_values (answered callouts l).answer ≡ length callouts ∷ []
+  pub answers : (callouts : List (List Record)) (l : Lists) → answer_values (answered callouts l).answer ≡ length callouts ∷ []
   pub lists : (callouts : List (List Record)) (l : Lists) → Listed callouts l (answered callouts l).lists
 
 -- A store is, up to its used length, what the appends of these callouts leave in each store of its length, none of them turned down.
@@ -144,13 +142,13 @@ pub record Written (store : List ℕ) (used : ℕ) (callouts : List (List Record
 -- A read answers callouts, and the store is what their appends leave.
 pub record Accepted (store : List ℕ) (used : ℕ) (l : Lists) : Type 0 where
   pub callouts : List (List Record)
-  pub number : walked_number (read_log store used l).answer ≡ 0
+  pub number : answer_number (read_log store used l).answer ≡ 0
   pub reads : read_log store used l ≡ answered callouts l
   pub written : Written store used callouts
 
 -- Each store that read accepts is, up to its used length, what the appends of the callouts that it answers leave.
 pub record ExactLaw : Type 0 where
-  pub exactly : (store : List ℕ) (used : ℕ) (l left : Lists) (count : ℕ) → Bytes store → read_log store used l ≡ reading (Callouts count) left → Accepted store used l
+  pub exactly : (store : List ℕ) (used : ℕ) (l left : Lists) (count : ℕ) → Bytes store → read_log store used l ≡ reading (Ok count) left → Accepted store used l
 
 -- The trailer of so many records ends at a place of a log.
 pub record TrailerAt (log : List ℕ) (end count : ℕ) : Type 0 where
@@ -181,7 +179,7 @@ pub record BrokenRecord (log : List ℕ) : Type 0 where
 
 -- A read is turned down by a number, and the lists are as they came.
 pub record NotRead (store : List ℕ) (used : ℕ) (l : Lists) (number : ℕ) : Type 0 where
-  pub refused : walked_number (read_log store used l).answer ≡ number
+  pub refused : answer_number (read_log store used l).answer ≡ number
   pub left : (read_log store used l).lists ≡ l
 
 -- A store holds callouts: read answers them where the lists have room, and else turns the lists down.

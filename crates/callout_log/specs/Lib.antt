@@ -1,4 +1,5 @@
 pub mod Append
+pub mod Callouts
 pub mod Instances
 pub mod Laws
 pub mod Log

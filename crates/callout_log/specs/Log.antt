@@ -1,8 +1,11 @@
 -- A log of callouts: what bytes it is, and how it is walked from the last trailer to the front.
-use Rattle.std.specs.Prelude.{Bool, true, List, [], ◌∷◌, ◌++◌, ℕ, zero, suc, ◌+◌, ◌-◌, leb, eqb, length}
+use Rattle.std.specs.Prelude.{Bool, true, List, [], ◌∷◌, ◌++◌, ℕ, zero, suc, ◌+◌, ◌-◌, leb, eqb, length, take, Result, Ok, Err}
 use Rattle.base.specs.Choice.{choose, ◌and◌}
+use Rattle.error.specs.Error.{error_number}
+use Rattle.error.specs.declared.Error.{Error}
+use Rattle.error.specs.declared.Error.TheVariants.{InvalidArgument, BrokenTrailer, BrokenRecord}
 use Rattle.callout_log.specs.declared.record.Record.{Record}
-use Rattle.callout_log.specs.Record.{records_bytes}
+use Rattle.callout_log.specs.Record.{is_record, records_bytes}
 use Rattle.callout_log.specs.Trailer.{count_before, distance, is_trailer, trailer_bytes}
 
 -- the bytes of a callout: its records, then the trailer
@@ -48,3 +51,28 @@ places_before log (end ∷ older) = places_from (end - distance (count_before lo
 -- the places of all records of a log
 unfoldable pub places : List ℕ → List ℕ
 places log = places_before log (ends log)
+
+-- what a walk over the trailers of a log finds: the numbers of callouts and of records
+unfoldable pub walked_trailers : List ℕ → Result (ℕ × ℕ) Error
+walked_trailers log = choose (every (is_trailer log) (ends log)) (Ok (length (ends log), length (places log))) (Err BrokenTrailer)
+
+-- the log in a store up to its used length, where the store and its trailers and records keep their rules
+unfoldable pub opened : List ℕ → (used : ℕ) → Result (List ℕ) Error
+opened store used =
+    choose (is_store (length store) used)
+    (choose (every (is_trailer (take used store)) (ends (take used store)))
+    (choose (every (is_record (take used store)) (places (take used store)))
+    (Ok (take used store))
+    (Err BrokenRecord))
+    (Err BrokenTrailer))
+    (Err InvalidArgument)
+
+-- the number that turns a call down, or 0
+unfoldable pub answer_number : Result ℕ Error → ℕ
+answer_number (Err error) = error_number error
+answer_number (Ok value) = 0
+
+-- the values of an answer; none of a call turned down
+unfoldable pub answer_values : Result ℕ Error → List ℕ
+answer_values (Err error) = []
+answer_values (Ok value) = value ∷ []

@@ -1,14 +1,13 @@
 -- Reading a log: what it answers and what it leaves in the lent lists.
-use Rattle.std.specs.Prelude.{◌≡◌, Bool, List, [], ◌∷◌, ◌++◌, map, ℕ, leb, length, take, drop}
+use Rattle.std.specs.Prelude.{◌≡◌, Bool, List, [], ◌∷◌, ◌++◌, map, ℕ, suc, ◌≤◌, leb, length, set, take, drop, Result, Ok, Err}
 use Rattle.base.specs.Choice.{choose, ◌and◌}
 use Rattle.callout_log.specs.declared.record.Record.{Record}
+use Rattle.error.specs.declared.Error.{Error}
+use Rattle.error.specs.declared.Error.TheVariants.{InvalidArgument, BrokenTrailer, BrokenRecord}
 use Rattle.callout_log.specs.Record.{record_at, is_record}
 use Rattle.callout_log.specs.Trailer.{count_before, is_trailer}
-use Rattle.callout_log.specs.Log.{ends, every, is_store, places, places_from}
-use Rattle.callout_log.specs.declared.read.Trailers.{Trailers}
-use Rattle.callout_log.specs.declared.read.Trailers.TheVariants.{Broken, Found}
-use Rattle.callout_log.specs.declared.read.Walked.{Walked}
-use Rattle.callout_log.specs.declared.read.Walked.TheVariants.{No, Callouts}
+use Rattle.callout_log.specs.Log.{ends, every, is_store, places}
+use Rattle.callout_log.specs.declared.read.Lists.{Lists as Lent}
 
 -- The lists lent to a call of read: the counts of the callouts, and five for the records.
 pub record Lists : Type 0 where
@@ -24,19 +23,32 @@ abbrev pub lists_of : (counts times counters session_ids local_indices verdicts 
 lists_of counts times counters session_ids local_indices verdicts =
     record { counts = counts; times = times; counters = counters; session_ids = session_ids; local_indices = local_indices; verdicts = verdicts }
 
+-- what lent lists hold
+abbrev pub held : Lent → Lists
+held l = lists_of l.counts.now l.times.now l.counters.now l.session_ids.now l.local_indices.now l.verdicts.now
+
+-- Two values of lent lists are the same six references.
+pub record SameLists (a b : Lent) : Type 0 where
+  pub counts : a.counts.ghost_name ≡ b.counts.ghost_name
+  pub times : a.times.ghost_name ≡ b.times.ghost_name
+  pub counters : a.counters.ghost_name ≡ b.counters.ghost_name
+  pub session_ids : a.session_ids.ghost_name ≡ b.session_ids.ghost_name
+  pub local_indices : a.local_indices.ghost_name ≡ b.local_indices.ghost_name
+  pub verdicts : a.verdicts.ghost_name ≡ b.verdicts.ghost_name
+
 -- values stored from the front of a list, whose rest stays as it came
 unfoldable pub over : List ℕ → List ℕ → List ℕ
 over values list = values ++ drop (length values) list
 
--- whether lists of these lengths have room for so many callouts and records
-unfoldable pub hold_lengths : (callouts records counts times counters session_ids local_indices verdicts : ℕ) → Bool
-hold_lengths callouts records counts times counters session_ids local_indices verdicts =
-    leb callouts counts and leb records times and leb records counters and leb records session_ids and leb records local_indices and leb records verdicts
-
 -- whether the lists have room for so many callouts and records
-abbrev pub hold : (callouts records : ℕ) → Lists → Bool
+unfoldable pub hold : (callouts records : ℕ) → Lists → Bool
 hold callouts records l =
-    hold_lengths callouts records (length l.counts) (length l.times) (length l.counters) (length l.session_ids) (length l.local_indices) (length l.verdicts)
+    leb callouts (length l.counts)
+    and leb records (length l.times)
+    and leb records (length l.counters)
+    and leb records (length l.session_ids)
+    and leb records (length l.local_indices)
+    and leb records (length l.verdicts)
 
 -- the lists with these counts and records
 unfoldable pub listing : (counts : List ℕ) → List Record → Lists → Lists
@@ -50,56 +62,44 @@ listing counts records l =
       verdicts = over (map (λ (r : Record). r.verdict) records) l.verdicts;
     }
 
--- The fields of so many records from a place on, in five lists.
-pub record Fields (bytes : List ℕ) (first count : ℕ) (times counters session_ids local_indices verdicts : List ℕ) : Type 0 where
-  pub time : times ≡ map (λ (at : ℕ). (record_at bytes at).time) (places_from first count)
-  pub counter : counters ≡ map (λ (at : ℕ). (record_at bytes at).counter) (places_from first count)
-  pub session_id : session_ids ≡ map (λ (at : ℕ). (record_at bytes at).session_id) (places_from first count)
-  pub local_index : local_indices ≡ map (λ (at : ℕ). (record_at bytes at).local_index) (places_from first count)
-  pub verdict : verdicts ≡ map (λ (at : ℕ). (record_at bytes at).verdict) (places_from first count)
+-- The five lists for records have so many elements or more.
+pub record HasRoom (records : ℕ) (l : Lists) : Type 0 where
+  pub times : records ≤ length l.times
+  pub counters : records ≤ length l.counters
+  pub session_ids : records ≤ length l.session_ids
+  pub local_indices : records ≤ length l.local_indices
+  pub verdicts : records ≤ length l.verdicts
 
--- Five lists have so many elements each.
-pub record Exactly (count : ℕ) (t c s l v : List ℕ) : Type 0 where
-  pub times : length t ≡ count
-  pub counters : length c ≡ count
-  pub session_ids : length s ≡ count
-  pub local_indices : length l ≡ count
-  pub verdicts : length v ≡ count
+-- the lists with a record at a place
+abbrev pub put_at : (at : ℕ) → Record → Lists → Lists
+put_at at r l =
+    lists_of l.counts (set l.times at r.time) (set l.counters at r.counter) (set l.session_ids at r.session_id) (set l.local_indices at r.local_index) (set l.verdicts at r.verdict)
+
+-- the lists with records from a place on
+unfoldable pub put_all : (at : ℕ) → List Record → Lists → Lists
+put_all at [] l = l
+put_all at (r ∷ records) l = put_all (suc at) records (put_at at r l)
 
 -- What a call of read answers, and the lists it leaves.
 pub record Reading : Type 0 where
-  pub answer : Walked
+  pub answer : Result ℕ Error
   pub lists : Lists
 
 -- this answer and lists
-abbrev pub reading : Walked → Lists → Reading
+abbrev pub reading : Result ℕ Error → Lists → Reading
 reading answer l = record { answer = answer; lists = l }
 
--- what a walk over the trailers of a log finds
-unfoldable pub walked_trailers : List ℕ → Trailers
-walked_trailers log = choose (every (is_trailer log) (ends log)) (Found (length (ends log)) (length (places log))) Broken
-
--- what reading a log that fills its bytes answers and leaves: 17 for a trailer, 18 for a record, 2 for a list that is too short
+-- what reading a log that fills its bytes answers and leaves: BrokenTrailer, BrokenRecord, InvalidArgument for a list that is too short
 unfoldable pub read_bytes : List ℕ → Lists → Reading
 read_bytes log l =
     choose (every (is_trailer log) (ends log))
     (choose (every (is_record log) (places log))
     (choose (hold (length (ends log)) (length (places log)) l)
-    (reading (Callouts (length (ends log))) (listing (map (count_before log) (ends log)) (map (record_at log) (places log)) l))
-    (reading (No 2) l))
-    (reading (No 18) l))
-    (reading (No 17) l)
+    (reading (Ok (length (ends log))) (listing (map (count_before log) (ends log)) (map (record_at log) (places log)) l))
+    (reading (Err InvalidArgument) l))
+    (reading (Err BrokenRecord) l))
+    (reading (Err BrokenTrailer) l)
 
 -- what reading a store up to its used length answers and leaves
 unfoldable pub read_log : List ℕ → (used : ℕ) → Lists → Reading
-read_log store used l = choose (is_store (length store) used) (read_bytes (take used store) l) (reading (No 2) l)
-
--- the number that turns a read down, or 0
-unfoldable pub walked_number : Walked → ℕ
-walked_number (No number) = number
-walked_number (Callouts count) = 0
-
--- the values of a read: the number of callouts; none of one turned down
-unfoldable pub walked_values : Walked → List ℕ
-walked_values (No number) = []
-walked_values (Callouts count) = count ∷ []
+read_log store used l = choose (is_store (length store) used) (read_bytes (take used store) l) (reading (Err InvalidArgument) l)

@@ -15,6 +15,14 @@ unfoldable pub records_bytes : List Record → List ℕ
 records_bytes [] = []
 records_bytes (r ∷ records) = record_bytes r ++ records_bytes records
 
+-- a record with its hidden fields 0: the counter, the session id and the local index
+unfoldable pub blanked : Record → Record
+blanked r = record { time = r.time; counter = 0; session_id = 0; local_index = 0; verdict = r.verdict }
+
+-- a record as it is seen, with its fields hidden or not
+unfoldable pub shown : (hides : Bool) → Record → Record
+shown hides r = choose hides (blanked r) r
+
 -- the record that stands at a place
 unfoldable pub record_at : List ℕ → ℕ → Record
 record_at bytes at =

@@ -1,10 +1,10 @@
 -- The trailer of a callout in 16 bytes.
-use Rattle.std.specs.Prelude.{Bool, List, ◌++◌, ℕ, ◌+◌, ◌-◌, ◌*◌, leb, eqb}
+use Rattle.std.specs.Prelude.{Bool, List, ◌++◌, ℕ, ◌+◌, ◌-◌, ◌*◌, leb, eqb, Result, Ok, Err}
 use Rattle.base.specs.Choice.{choose, ◌and◌}
 use Rattle.base.specs.Lists.{zeros}
+use Rattle.error.specs.declared.Error.{Error}
+use Rattle.error.specs.declared.Error.TheVariants.{BrokenTrailer}
 use Rattle.endian.specs.LittleEndian.{field, to_le_bytes}
-use Rattle.callout_log.specs.declared.trailer.Trailer.{Trailer}
-use Rattle.callout_log.specs.declared.trailer.Trailer.TheVariants.{Broken, Records}
 
 -- the distance from the end of a callout of so many records to its first one
 abbrev pub distance : ℕ → ℕ
@@ -27,6 +27,6 @@ is_trailer bytes end =
     and eqb (field (end - 4) 4 bytes) 0
     and leb (distance (count_before bytes end)) end
 
--- what the trailer that ends at a place says
-unfoldable pub trailer_before : List ℕ → ℕ → Trailer
-trailer_before bytes end = choose (is_trailer bytes end) (Records (count_before bytes end)) Broken
+-- the count in the trailer that ends at a place, or BrokenTrailer
+unfoldable pub trailer_before : List ℕ → ℕ → Result ℕ Error
+trailer_before bytes end = choose (is_trailer bytes end) (Ok (count_before bytes end)) (Err BrokenTrailer)

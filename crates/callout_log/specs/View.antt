@@ -1,14 +1,13 @@
 -- The log as it is seen: whole, or with its hidden fields as zero bytes. Hidden are the counter, the session id and the local index of every record.
-use Rattle.std.specs.Prelude.{◌≡◌, Bool, List, [], ◌∷◌, ◌++◌, ℕ, ◌+◌, leb, length, take, drop}
+use Rattle.std.specs.Prelude.{Bool, List, [], ◌∷◌, ◌++◌, ℕ, ◌+◌, leb, length, take, drop, Result, Ok, Err}
 use Rattle.base.specs.Choice.{choose}
 use Rattle.base.specs.Lists.{zeros}
 use Rattle.callout_log.specs.Record.{is_record}
 use Rattle.callout_log.specs.Trailer.{is_trailer}
 use Rattle.callout_log.specs.Log.{ends, every, is_store, places}
 use Rattle.callout_log.specs.Read.{Lists, Reading, over, read_bytes, reading}
-use Rattle.callout_log.specs.declared.read.Walked.TheVariants.{No as NotWalked}
-use Rattle.callout_log.specs.declared.view.Viewed.{Viewed}
-use Rattle.callout_log.specs.declared.view.Viewed.TheVariants.{No, Bytes}
+use Rattle.error.specs.declared.Error.{Error}
+use Rattle.error.specs.declared.Error.TheVariants.{InvalidArgument, BrokenTrailer, BrokenRecord}
 
 -- bytes in which the hidden fields of the record at a place are zero: its 20 bytes from the ninth on
 unfoldable pub hide_at : ℕ → List ℕ → List ℕ
@@ -29,44 +28,28 @@ seen hides log = choose hides (hide_all (pointed log) log) log
 
 -- What a call of view answers, and the bytes it leaves.
 pub record Viewing : Type 0 where
-  pub answer : Viewed
+  pub answer : Result ℕ Error
   pub bytes : List ℕ
 
 -- this answer and bytes
-abbrev pub viewing : Viewed → List ℕ → Viewing
+abbrev pub viewing : Result ℕ Error → List ℕ → Viewing
 viewing answer bytes = record { answer = answer; bytes = bytes }
 
--- what viewing a log that fills its bytes answers and leaves: 17 for a trailer, 18 for a record, 2 for lent bytes that are too few
+-- what viewing a log that fills its bytes answers and leaves: BrokenTrailer, BrokenRecord, InvalidArgument for lent bytes that are too few
 unfoldable pub view_bytes : (hides : Bool) → List ℕ → (bytes : List ℕ) → Viewing
 view_bytes hides log bytes =
     choose (every (is_trailer log) (ends log))
     (choose (every (is_record log) (places log))
     (choose (leb (length log) (length bytes))
-    (viewing (Bytes (length log)) (over (seen hides log) bytes))
-    (viewing (No 2) bytes))
-    (viewing (No 18) bytes))
-    (viewing (No 17) bytes)
+    (viewing (Ok (length log)) (over (seen hides log) bytes))
+    (viewing (Err InvalidArgument) bytes))
+    (viewing (Err BrokenRecord) bytes))
+    (viewing (Err BrokenTrailer) bytes)
 
 -- what viewing a store up to its used length answers and leaves
 unfoldable pub view_log : (hides : Bool) → List ℕ → (used : ℕ) → (bytes : List ℕ) → Viewing
-view_log hides store used bytes = choose (is_store (length store) used) (view_bytes hides (take used store) bytes) (viewing (No 2) bytes)
-
--- Three lists that have 0 for so many records, from the front on, and are as they came behind that.
-pub record Blanks (records : ℕ) (c s l c' s' l' : List ℕ) : Type 0 where
-  pub counters : c' ≡ over (zeros records) c
-  pub session_ids : s' ≡ over (zeros records) s
-  pub local_indices : l' ≡ over (zeros records) l
+view_log hides store used bytes = choose (is_store (length store) used) (view_bytes hides (take used store) bytes) (viewing (Err InvalidArgument) bytes)
 
 -- what reading the log as it is seen answers and leaves
 unfoldable pub read_seen : (hides : Bool) → List ℕ → (used : ℕ) → Lists → Reading
-read_seen hides store used l = choose (is_store (length store) used) (read_bytes (seen hides (take used store)) l) (reading (NotWalked 2) l)
-
--- the number that turns a view down, or 0
-unfoldable pub viewed_number : Viewed → ℕ
-viewed_number (No number) = number
-viewed_number (Bytes count) = 0
-
--- the values of a view: the number of its bytes; none of one turned down
-unfoldable pub viewed_values : Viewed → List ℕ
-viewed_values (No number) = []
-viewed_values (Bytes count) = count ∷ []
+read_seen hides store used l = choose (is_store (length store) used) (read_bytes (seen hides (take used store)) l) (reading (Err InvalidArgument) l)

@@ -2,8 +2,10 @@
 use Rattle.std.specs.Prelude.{◌≡◌, Bool, true, false, List, [], ◌∷◌, map, ℕ, ◌+◌, ◌-◌, ◌*◌, ◌≤◌, ◌<◌, length, get_or, take}
 use Rattle.endian.specs.LittleEndian.{Bytes}
 use Rattle.callout_log.specs.declared.record.Record.{Record}
-use Rattle.callout_log.specs.Read.{Lists, read_log, walked_number}
-use Rattle.callout_log.specs.View.{read_seen, viewed_number, viewed_values, view_log}
+use Rattle.callout_log.specs.Record.{blanked}
+use Rattle.callout_log.specs.Log.{answer_number, answer_values}
+use Rattle.callout_log.specs.Read.{Lists, read_log}
+use Rattle.callout_log.specs.View.{read_seen, view_log}
 use Rattle.callout_log.specs.Laws.{BrokenRecord, BrokenTrailer, Leads, Room, TrailerAt, Written, answered}
 
 -- A byte of a log is hidden: no trailer is broken, and it stands in the counter, the session id or the local index of a record that a trailer points to, the
@@ -31,12 +33,8 @@ pub record SameSeenLaw : Type 0 where
 
 -- A view is turned down by a number, and the lent bytes are as they came.
 pub record NotViewed (hides : Bool) (store : List ℕ) (used : ℕ) (bytes : List ℕ) (number : ℕ) : Type 0 where
-  pub refused : viewed_number (view_log hides store used bytes).answer ≡ number
+  pub refused : answer_number (view_log hides store used bytes).answer ≡ number
   pub left : (view_log hides store used bytes).bytes ≡ bytes
-
--- a record with its hidden fields 0
-unfoldable pub blanked : Record → Record
-blanked r = record { time = r.time; counter = 0; session_id = 0; local_index = 0; verdict = r.verdict }
 
 -- the callouts that a log seen with its fields hidden or not has
 unfoldable pub seen_callouts : (hides : Bool) → List (List Record) → List (List Record)
@@ -46,8 +44,8 @@ seen_callouts false callouts = callouts
 -- A view is good: it answers the used length, has the log's bytes with the hidden ones zero, and leaves the rest of the lent bytes; and it is a log, what the
 -- appends of the callouts leave, their hidden fields 0 where they are hidden, and read answers these.
 pub record IsViewed (hides : Bool) (store : List ℕ) (used : ℕ) (bytes left : List ℕ) : Type 0 where
-  pub number : viewed_number (view_log hides store used bytes).answer ≡ 0
-  pub values : viewed_values (view_log hides store used bytes).answer ≡ used ∷ []
+  pub number : answer_number (view_log hides store used bytes).answer ≡ 0
+  pub values : answer_values (view_log hides store used bytes).answer ≡ used ∷ []
   pub leaves : (view_log hides store used bytes).bytes ≡ left
   pub size : length left ≡ length bytes
   pub hidden : hides ≡ true → (i : ℕ) → HiddenByte (take used store) i → get_or left i 0 ≡ 0
@@ -82,6 +80,6 @@ pub record HeldSeen (hides : Bool) (store : List ℕ) (used : ℕ) (l : Lists) :
 pub record ReadSeenLaw : Type 0 where
   pub answer : (hides : Bool) (store : List ℕ) (used : ℕ) (l : Lists) → (read_seen hides store used l).answer ≡ (read_log store used l).answer
   pub whole : (store : List ℕ) (used : ℕ) (l : Lists) → read_seen false store used l ≡ read_log store used l
-  pub refused : (hides : Bool) (store : List ℕ) (used : ℕ) (l : Lists) → (walked_number (read_log store used l).answer ≡ 0 → ⊥) → (read_seen hides store used l).lists ≡ l
+  pub refused : (hides : Bool) (store : List ℕ) (used : ℕ) (l : Lists) → (answer_number (read_log store used l).answer ≡ 0 → ⊥) → (read_seen hides store used l).lists ≡ l
   pub held : (hides : Bool) (store : List ℕ) (used : ℕ) (l : Lists) → Bytes store → length store ≤ 65536 → used ≤ length store
       → (BrokenTrailer (take used store) → ⊥) → (BrokenRecord (take used store) → ⊥) → HeldSeen hides store used l

@@ -3,8 +3,8 @@
 
 pub mod append;
 pub mod claims;
+mod log;
 pub mod read;
 mod record;
-mod store;
 mod trailer;
 pub mod view;

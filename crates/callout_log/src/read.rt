@@ -1,270 +1,95 @@
 // Reading a log: its callouts from the last to the first, the records of each front to back.
-ghost use Rattle.std.specs.Prelude.{◌≡◌, true, map, ◌+◌, ◌*◌, ◌≤◌, length};
-ghost use Rattle.callout_log.specs.Record.{record_at, is_record};
-ghost use Rattle.callout_log.specs.Trailer.{count_before, is_trailer};
-ghost use Rattle.callout_log.specs.Log.{ends, every, places, places_from};
-ghost use Rattle.callout_log.specs.Read.{Exactly, Fields, hold, hold_lengths, listing, lists_of, read_bytes, read_log, reading, walked_trailers};
+ghost use Rattle.std.specs.Prelude.{◌≡◌, true, ◌+◌, ◌*◌, ◌≤◌, map, length};
+ghost use Rattle.callout_log.specs.Record.{record_at, shown};
+ghost use Rattle.callout_log.specs.Trailer.{count_before};
+ghost use Rattle.callout_log.specs.Log.{ends, places, places_from};
+ghost use Rattle.callout_log.specs.Read.{HasRoom, SameLists, held, hold, listing, put_all, put_at, reading};
+ghost use Rattle.callout_log.specs.View.{read_seen};
 
-use crate::record::{is_record, record_at};
-use crate::store::is_store;
-use crate::trailer::{Trailer, records_before, trailer_before};
+use crate::log::{Callout, Log, open};
+use crate::record::{RECORD_SZ, Record, record_at};
+use error::Error;
 
-// What reading answers: the number that turns the log down, or how many callouts it has.
-#[derive(Clone, Copy)]
-pub enum Walked {
-    No(u8),
-    Callouts(usize),
+// The lists that a log is read into: the number of records of each callout, and five lists for the records.
+#[derive(Drop)]
+pub struct Lists<'a> {
+    pub counts: &'a mut [u32],
+    pub times: &'a mut [u64],
+    pub counters: &'a mut [u64],
+    pub session_ids: &'a mut [u64],
+    pub local_indices: &'a mut [u32],
+    pub verdicts: &'a mut [u8],
 }
 
-// What a walk over the trailers finds: one that breaks its rule, or the numbers of callouts and of records.
-#[derive(Clone, Copy)]
-pub(crate) enum Trailers {
-    Broken,
-    Found(usize, usize),
+impl Lists<'_> {
+    // Whether they have room for so many callouts and records.
+    #[tactic(auto, unfolding(crate::specs::Read::hold, base::specs::Choice::choose))]
+    fn have_room(&self, callouts: usize, records: usize) -> bool
+        ensures { result ≡ hold callouts records (held self.now) }
+    {
+        self.counts.len() >= callouts
+            && self.times.len() >= records
+            && self.counters.len() >= records
+            && self.session_ids.len() >= records
+            && self.local_indices.len() >= records
+            && self.verdicts.len() >= records
+    }
+
+    // Puts a record at a place.
+    fn put(&mut self, at: usize, report: Record)
+        requires { HasRoom (at + 1) (held self.old) }
+        ensures put { held self.new ≡ put_at at report (held self.old) }
+        ensures same { SameLists self.new self.old }
+    {
+        self.times[at] = report.time;
+        self.counters[at] = report.counter;
+        self.session_ids[at] = report.session_id;
+        self.local_indices[at] = report.local_index;
+        self.verdicts[at] = report.verdict;
+    }
 }
 
-// Walks from the last trailer to the front.
-pub(crate) fn walk(bytes: &[u8]) -> Trailers
-    ensures { result ≡ walked_trailers bytes.now }
+// Reads the records of a callout into lists from a place on.
+#[tactic(auto, using(crate::proofs::Filling::puts))]
+fn read_records(bytes: &[u8], callout: Callout, hides: bool, lists: &mut Lists, at: usize)
+    requires inside { callout.first + 32 * callout.count ≤ length bytes.now }
+    requires room { HasRoom (at + callout.count) (held lists.old) }
+    ensures put { held lists.new ≡ put_all at (map (λ place. shown hides (record_at bytes.now place)) (places_from callout.first callout.count)) (held lists.old) }
+    ensures same { SameLists lists.new lists.old }
 {
-    let mut end = bytes.len();
-    let mut callouts = 0;
+    for i in 0..callout.count as usize {
+        let report = record_at(bytes, callout.first + RECORD_SZ * i);
+        lists.put(at + i, report.seen(hides));
+    }
+}
+
+// Reads all callouts of a log into lists that hold them.
+fn read_callouts(log: Log, hides: bool, lists: &mut Lists)
+    requires { hold log.callouts log.records (held lists.old) ≡ true }
+    ensures listing { held lists.new ≡ listing (map (count_before log.entry.bytes.now) (ends log.entry.bytes.now)) (map (λ place. shown hides (record_at log.entry.bytes.now place)) (places log.entry.bytes.now)) (held lists.old) }
+    ensures same { SameLists lists.new lists.old }
+{
     let mut records = 0;
-    while end > 0 {
-        let Trailer::Records(count) = trailer_before(bytes, end) else {
-            return Trailers::Broken;
-        };
-        end = end - (16 + 32 * (count as usize));
-        callouts = callouts + 1;
-        records = records + (count as usize);
-    }
-    Trailers::Found(callouts, records)
-}
-
-// Whether so many records from a place on keep their rule.
-fn are_records(bytes: &[u8], first: usize, count: usize) -> bool
-    requires { first + 32 * count ≤ length bytes.now }
-    ensures { result ≡ every (is_record bytes.now) (places_from first count) }
-{
-    let mut at = first;
-    let mut left = count;
-    while left > 0 {
-        if is_record(bytes, at) {
-            at = at + 32;
-            left = left - 1;
-        } else {
-            return false;
-        }
-    }
-    true
-}
-
-// Whether all records of a log with good trailers keep their rule.
-pub(crate) fn are_callouts(bytes: &[u8]) -> bool
-    requires { every (is_trailer bytes.now) (ends bytes.now) ≡ true }
-    ensures { result ≡ every (is_record bytes.now) (places bytes.now) }
-{
-    let mut end = bytes.len();
-    while end > 0 {
-        let count = records_before(bytes, end) as usize;
-        let first = end - (16 + 32 * count);
-        if are_records(bytes, first, count) {
-            end = first;
-        } else {
-            return false;
-        }
-    }
-    true
-}
-
-// Whether lists of these lengths have room for so many callouts and records.
-fn has_room(
-    callouts: usize,
-    records: usize,
-    counts: usize,
-    times: usize,
-    counters: usize,
-    session_ids: usize,
-    local_indices: usize,
-    verdicts: usize,
-) -> bool
-    ensures { result ≡ hold_lengths callouts records counts times counters session_ids local_indices verdicts }
-{
-    if counts < callouts {
-        return false;
-    }
-    if times < records {
-        return false;
-    }
-    if counters < records {
-        return false;
-    }
-    if session_ids < records {
-        return false;
-    }
-    if local_indices < records {
-        return false;
-    }
-    verdicts >= records
-}
-
-// Reads the records from a place on into lists that hold just these.
-fn read_records(
-    bytes: &[u8],
-    first: usize,
-    count: usize,
-    times: &mut [u64],
-    counters: &mut [u64],
-    session_ids: &mut [u64],
-    local_indices: &mut [u32],
-    verdicts: &mut [u8],
-)
-    requires { Exactly count times.old counters.old session_ids.old local_indices.old verdicts.old × (first + 32 * count ≤ length bytes.now) }
-    ensures { Fields bytes.now first count times.new counters.new session_ids.new local_indices.new verdicts.new }
-{
-    let mut i = 0;
-    while i < count {
-        let report = record_at(bytes, first + 32 * i);
-        times[i] = report.time;
-        counters[i] = report.counter;
-        session_ids[i] = report.session_id;
-        local_indices[i] = report.local_index;
-        verdicts[i] = report.verdict;
-        i = i + 1;
+    for (i, callout) in log.callouts().enumerate() {
+        lists.counts[i] = callout.count;
+        read_records(log.bytes, callout, hides, lists, records);
+        records += callout.count as usize;
     }
 }
 
-// Reads all callouts of a log that keeps its rules into lists that hold them.
-fn read_callouts(
-    bytes: &[u8],
-    counts: &mut [u32],
-    times: &mut [u64],
-    counters: &mut [u64],
-    session_ids: &mut [u64],
-    local_indices: &mut [u32],
-    verdicts: &mut [u8],
-)
-    requires { (every (is_trailer bytes.now) (ends bytes.now) ≡ true) × (hold (length (ends bytes.now)) (length (places bytes.now)) (lists_of counts.old times.old counters.old session_ids.old local_indices.old verdicts.old) ≡ true) }
-    ensures { lists_of counts.new times.new counters.new session_ids.new local_indices.new verdicts.new ≡ listing (map (count_before bytes.now) (ends bytes.now)) (map (record_at bytes.now) (places bytes.now)) (lists_of counts.old times.old counters.old session_ids.old local_indices.old verdicts.old) }
+// Reads the log in a store up to its used length, with the hidden fields of its records as 0 or not: into `counts` the number of records
+// of each callout, the last callout first, and into the other lists their records, those of a callout front to back. Turned down by
+// InvalidArgument for the store or the used length, by BrokenTrailer, by BrokenRecord, by InvalidArgument for a list that is too short;
+// the rest of a longer list stays as it came.
+#[tactic(auto, using(crate::proofs::Reading::reads))]
+pub fn read(store: &[u8], used: usize, hides: bool, lists: &mut Lists) -> Result<usize, Error>
+    ensures reads { reading result (held lists.new) ≡ read_seen hides store.now used (held lists.old) }
+    ensures same { SameLists lists.new lists.old }
 {
-    let mut end = bytes.len();
-    let mut callouts = 0;
-    let mut at = 0;
-    while end > 0 {
-        let count = records_before(bytes, end);
-        let next = at + (count as usize);
-        end = end - (16 + 32 * (count as usize));
-        counts[callouts] = count;
-        read_records(
-            bytes,
-            end,
-            count as usize,
-            &mut times[at..next],
-            &mut counters[at..next],
-            &mut session_ids[at..next],
-            &mut local_indices[at..next],
-            &mut verdicts[at..next],
-        );
-        callouts = callouts + 1;
-        at = next;
+    let log = open(store, used)?;
+    if !lists.have_room(log.callouts, log.records) {
+        return Err(Error::InvalidArgument);
     }
-}
-
-// Reads a log whose trailers keep their rule, with so many callouts and records.
-pub(crate) fn read_walked(
-    bytes: &[u8],
-    callouts: usize,
-    records: usize,
-    counts: &mut [u32],
-    times: &mut [u64],
-    counters: &mut [u64],
-    session_ids: &mut [u64],
-    local_indices: &mut [u32],
-    verdicts: &mut [u8],
-) -> Walked
-    requires { (every (is_trailer bytes.now) (ends bytes.now) ≡ true) × (callouts ≡ length (ends bytes.now)) × (records ≡ length (places bytes.now)) }
-    ensures { reading result (lists_of counts.new times.new counters.new session_ids.new local_indices.new verdicts.new) ≡ read_bytes bytes.now (lists_of counts.old times.old counters.old session_ids.old local_indices.old verdicts.old) }
-{
-    if !are_callouts(bytes) {
-        return Walked::No(18);
-    }
-    if !has_room(
-        callouts,
-        records,
-        counts.len(),
-        times.len(),
-        counters.len(),
-        session_ids.len(),
-        local_indices.len(),
-        verdicts.len(),
-    ) {
-        return Walked::No(2);
-    }
-    read_callouts(
-        bytes,
-        counts,
-        times,
-        counters,
-        session_ids,
-        local_indices,
-        verdicts,
-    );
-    Walked::Callouts(callouts)
-}
-
-// Reads a log that fills its bytes.
-fn read_bytes(
-    bytes: &[u8],
-    counts: &mut [u32],
-    times: &mut [u64],
-    counters: &mut [u64],
-    session_ids: &mut [u64],
-    local_indices: &mut [u32],
-    verdicts: &mut [u8],
-) -> Walked
-    ensures { reading result (lists_of counts.new times.new counters.new session_ids.new local_indices.new verdicts.new) ≡ read_bytes bytes.now (lists_of counts.old times.old counters.old session_ids.old local_indices.old verdicts.old) }
-{
-    let Trailers::Found(callouts, records) = walk(bytes) else {
-        return Walked::No(17);
-    };
-    read_walked(
-        bytes,
-        callouts,
-        records,
-        counts,
-        times,
-        counters,
-        session_ids,
-        local_indices,
-        verdicts,
-    )
-}
-
-// Reads the log in a store up to its used length: into `counts` the number of records of each callout, the last callout first, and into
-// the other lists their records, those of a callout front to back. Turned down by 2 for the store or the used length, by 17 for a
-// trailer, by 18 for a record, by 2 for a list that is too short; the rest of a longer list stays as it came.
-pub fn read(
-    store: &[u8],
-    used: usize,
-    counts: &mut [u32],
-    times: &mut [u64],
-    counters: &mut [u64],
-    session_ids: &mut [u64],
-    local_indices: &mut [u32],
-    verdicts: &mut [u8],
-) -> Walked
-    ensures { reading result (lists_of counts.new times.new counters.new session_ids.new local_indices.new verdicts.new) ≡ read_log store.now used (lists_of counts.old times.old counters.old session_ids.old local_indices.old verdicts.old) }
-{
-    if !is_store(store.len(), used) {
-        return Walked::No(2);
-    }
-    read_bytes(
-        &store[..used],
-        counts,
-        times,
-        counters,
-        session_ids,
-        local_indices,
-        verdicts,
-    )
+    read_callouts(log, hides, lists);
+    Ok(log.callouts)
 }

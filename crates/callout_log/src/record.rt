@@ -20,20 +20,32 @@ pub struct Record {
     pub verdict: u8,
 }
 
+impl Record {
+    ghost use Rattle.callout_log.specs.Record.{shown};
+
+    // The record as it is seen: with its counter, session id and local index 0, or whole.
+    #[tactic(auto, unfolding(crate::specs::Record::shown, crate::specs::Record::blanked, base::specs::Choice::choose))]
+    pub fn seen(self, hides: bool) -> Record
+        ensures { result ≡ shown hides self }
+    {
+        if !hides {
+            return self;
+        }
+        Record {
+            counter: 0,
+            session_id: 0,
+            local_index: 0,
+            ..self
+        }
+    }
+}
+
 // Whether a number is a verdict that a record may have.
+#[tactic(auto, unfolding(crate::specs::Record::is_verdict, base::specs::Choice::choose))]
 pub fn is_verdict(number: u32) -> bool
     ensures { result ≡ is_verdict number }
 {
-    if number == 0 {
-        return true;
-    }
-    if number == 7 {
-        return true;
-    }
-    if number == 9 {
-        return true;
-    }
-    number == 10
+    matches!(number, 0 | 7 | 9 | 10)
 }
 
 // Writes a record into 32 bytes.
@@ -49,37 +61,27 @@ pub fn write_record(bytes: &mut [u8], report: Record)
 }
 
 // The record that stands at a place.
+#[tactic(auto, using(crate::proofs::Records::record_read))]
 pub fn record_at(bytes: &[u8], at: usize) -> Record
     requires { at + 32 ≤ length bytes.now }
     ensures { result ≡ record_at bytes.now at }
 {
-    let counter_at = at + 8;
-    let session_at = at + 16;
-    let index_at = at + 24;
-    let verdict_at = at + 28;
-    let time = read_u64(&bytes[at..counter_at]);
-    let counter = read_u64(&bytes[counter_at..session_at]);
-    let session_id = read_u64(&bytes[session_at..index_at]);
-    let local_index = read_u32(&bytes[index_at..verdict_at]);
+    let record = &bytes[at..at + RECORD_SZ];
     Record {
-        time,
-        counter,
-        session_id,
-        local_index,
-        verdict: bytes[verdict_at],
+        time: read_u64(&record[0..8]),
+        counter: read_u64(&record[8..16]),
+        session_id: read_u64(&record[16..24]),
+        local_index: read_u32(&record[24..28]),
+        verdict: record[28],
     }
 }
 
 // Whether the 32 bytes from a place on are a record that keeps its rule.
+#[tactic(auto, using(crate::proofs::Records::record_late, crate::proofs::Records::record_told))]
 pub fn is_record(bytes: &[u8], at: usize) -> bool
     requires { at + 32 ≤ length bytes.now }
     ensures { result ≡ is_record bytes.now at }
 {
-    let verdict_at = at + 28;
-    let end = at + RECORD_SZ;
-    let counter_at = at + 8;
-    if read_u64(&bytes[at..counter_at]) > TIME_LIMIT {
-        return false;
-    }
-    is_verdict(read_u32(&bytes[verdict_at..end]))
+    let record = &bytes[at..at + RECORD_SZ];
+    read_u64(&record[0..8]) <= TIME_LIMIT && is_verdict(read_u32(&record[28..32]))
 }

@@ -7,19 +7,17 @@
 mod arguments;
 mod ask;
 mod batches;
+mod call;
 mod clauses;
 mod creation;
-mod damage;
-mod every;
+mod expected;
 mod fields;
 mod header;
 mod judge;
 mod order;
 mod outside;
 mod request;
-mod same;
 mod sound;
-mod tally;
 mod unlooked;
 
 use crate::arguments::argument_groups;

@@ -1,48 +1,96 @@
 // The order of the checks, a clock that goes back, and expired tunnels.
-use crate::damage::{Damage, ended, no_damage, woken};
-use crate::every::{ALL, OF_EMPTY, OF_EXPIRED, RANGED, TIMED, TIMED_RANGED, every};
-use crate::fields::LAST_UPDATE;
-use crate::request::{START, bad, good};
-use crate::sound::GREATEST;
-use crate::tally::Tally;
+use crate::call::Call;
+use crate::expected::{Expected, of_empty, of_expired};
+use crate::judge::every;
+use crate::request::{bad, good};
+use crate::sound::{GREATEST, but, ended, sound, woken};
+use error::Error;
 use std::io;
 use std::io::Write;
-use tunnel::tunnel::TIME_LIMIT;
+use tally::Tally;
+use tunnel::tunnel::{TIME_LIMIT, Tunnel};
 
 // The sound tunnel with its last update beyond the greatest time.
-fn late() -> Damage {
-    Damage {
-        field: LAST_UPDATE,
-        value: GREATEST + 1,
-    }
+fn late() -> Tunnel {
+    but(|tunnel| tunnel.last_update = GREATEST + 1)
 }
 
-// Every call of these with good arguments.
-fn good_calls(damage: Damage, now: u64, calls: u64, expected: u64) -> Tally {
-    every(damage, good(START, now), calls, expected)
+// Every call with a time, with good arguments, is turned down for this.
+fn timed(tunnel: Tunnel, now: u64, error: Error) -> Tally {
+    every(
+        tunnel,
+        Call::has_time,
+        |call| good(call, now),
+        |_| Expected::Just(Err(error)),
+    )
 }
 
-// Every call of these with bad arguments.
-fn bad_calls(damage: Damage, now: u64, calls: u64, expected: u64) -> Tally {
-    every(damage, bad(START, now), calls, expected)
+// Every call with a time and an argument that can be out of range, with bad arguments, is turned down for this.
+fn timed_ranged(now: u64, error: Error) -> Tally {
+    every(
+        sound(),
+        |call| call.has_time() && call.has_range(),
+        |call| bad(call, now),
+        |_| Expected::Just(Err(error)),
+    )
 }
 
 // Writes the groups of the order.
 fn order_of_checks<W: Write>(out: &mut W) -> io::Result<()> {
-    bad_calls(no_damage(), TIME_LIMIT + 1, TIMED_RANGED, 1).print(out, b"1 before 2")?;
-    good_calls(late(), TIME_LIMIT + 1, TIMED, 1).print(out, b"1 before 14")?;
-    bad_calls(late(), GREATEST, RANGED, 2).print(out, b"2 before 14")?;
-    bad_calls(no_damage(), GREATEST - 1, TIMED_RANGED, 2).print(out, b"2 before 13")?;
-    good_calls(late(), GREATEST - 1, ALL, 14).print(out, b"14 before 13")?;
-    good_calls(ended(), GREATEST - 1, TIMED, 13).print(out, b"13 before 11")
+    let ranged = every(
+        late(),
+        Call::has_range,
+        |call| bad(call, GREATEST),
+        |_| Expected::Just(Err(Error::InvalidArgument)),
+    );
+    let all = every(
+        late(),
+        |_| true,
+        |call| good(call, GREATEST - 1),
+        |_| Expected::Just(Err(Error::DamagedState)),
+    );
+    writeln!(
+        out,
+        "1 before 2: {}",
+        timed_ranged(TIME_LIMIT + 1, Error::InvalidTime)
+    )?;
+    writeln!(
+        out,
+        "1 before 14: {}",
+        timed(late(), TIME_LIMIT + 1, Error::InvalidTime)
+    )?;
+    writeln!(out, "2 before 14: {ranged}")?;
+    writeln!(
+        out,
+        "2 before 13: {}",
+        timed_ranged(GREATEST - 1, Error::InvalidArgument)
+    )?;
+    writeln!(out, "14 before 13: {all}")?;
+    writeln!(
+        out,
+        "13 before 11: {}",
+        timed(ended(), GREATEST - 1, Error::ClockWentBack)
+    )
 }
 
 // Writes the groups of the order, the clock and the end.
 pub fn order_groups<W: Write>(out: &mut W) -> io::Result<()> {
     order_of_checks(out)?;
-    good_calls(no_damage(), GREATEST - 1, TIMED, 13)
-        .plus(good_calls(no_damage(), 0, TIMED, 13))
-        .print(out, b"13 clock that goes back")?;
-    good_calls(ended(), GREATEST + 1, ALL, OF_EXPIRED).print(out, b"11 expired with sessions")?;
-    good_calls(woken(), 100_000_000_001, ALL, OF_EMPTY).print(out, b"11 expired by a waking")
+    let back = timed(sound(), GREATEST - 1, Error::ClockWentBack)
+        + timed(sound(), 0, Error::ClockWentBack);
+    let with_sessions = every(
+        ended(),
+        |_| true,
+        |call| good(call, GREATEST + 1),
+        of_expired,
+    );
+    let by_waking = every(
+        woken(),
+        |_| true,
+        |call| good(call, 100_000_000_001),
+        of_empty,
+    );
+    writeln!(out, "13 clock that goes back: {back}")?;
+    writeln!(out, "11 expired with sessions: {with_sessions}")?;
+    writeln!(out, "11 expired by a waking: {by_waking}")
 }

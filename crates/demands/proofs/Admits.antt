@@ -8,26 +8,23 @@ use Prim.Native.Nat.{ℕ, ◌≤◌, ◌<◌}
 use native.Mathlib.Omega.{arith}
 use lib.Dec.{ltb, leb, eqb}
 use borrow.Author.Tests.{ltb-true, leb-true, eqb-true}
-use Rattle.base.specs.Choice.{choose}
+use Rattle.base.specs.Choice.{choose, case_option}
 use Rattle.tunnel.specs.Answer.{number_of}
-use Rattle.tunnel.specs.declared.answer.Answer.TheVariants.{No, Done, NoAnswer, Initiation, Response, Keepalive, Granted, Polled, Deadline, Report, Woke}
+use Rattle.tunnel.specs.declared.answer.Answer.TheVariants.{Deadline}
 use Rattle.tunnel.specs.declared.answer.Answer.{Answer}
 use Rattle.demands.specs.Calls.Call.{send, timeout, deadline}
 use Rattle.demands.specs.Calls.{Call, World, step, after, Expired}
 use Rattle.demands.specs.Wakings.{Step, shared, extra, woken_calls, Ran, ran, ran_after, Current, BeforeDeadline, time_of, NotEarlier, ComesEarly, CurrentOrUnset, InOrder}
-use Rattle.sessions.specs.Cases.{case_time, case_found}
 use Rattle.sessions.specs.Sessions.{current_of}
 use Rattle.sessions.specs.declared.session.Session.{Session}
-use Rattle.sessions.specs.declared.session.Time.TheVariants.{Never, At}
-use Rattle.sessions.specs.declared.session.Time.{Time}
-use Rattle.sessions.specs.declared.sessions.Found.TheVariants.{Nothing, Got}
-use Rattle.sessions.specs.declared.sessions.Found.{Found}
+use Rattle.std.specs.Prelude.{None, Option, Some, Result, Ok}
+use Rattle.error.specs.declared.Error.{Error}
 
 -- both tests hold
 of_both : (a b : Bool) → choose a b false ≡ true → (a ≡ true) × (b ≡ true)
 unfolding choose
 of_both true b e = (refl, e)
-of_both false b e = let z : ◌≡◌ {A = ℕ} 0 1 = cc in absurd (omega arith)
+of_both false b e = cc
 
 -- one of two tests holds
 of_either : (a b : Bool) → choose a true b ≡ true → (a ≡ true) ⊎ (b ≡ true)
@@ -36,40 +33,18 @@ of_either true b e = inl refl
 of_either false b e = inr e
 
 -- an answer that is number 11
-unfoldable pub is_eleven : Answer → Bool
+unfoldable pub is_eleven : Result Answer Error → Bool
 is_eleven answer = eqb (number_of answer) 11
 
 -- an answer that is a deadline above a time
-unfoldable pub is_above : ℕ → Answer → Bool
-is_above now (No number) = false
-is_above now Done = false
-is_above now NoAnswer = false
-is_above now (Initiation local) = false
-is_above now (Response local peer) = false
-is_above now (Keepalive peer counter) = false
-is_above now (Granted granted) = false
-is_above now (Polled event) = false
-is_above now (Deadline time) = case_time time false (λ due. ltb now due)
-is_above now (Report count) = false
-is_above now (Woke wakings) = false
+unfoldable pub is_above : ℕ → Result Answer Error → Bool
+is_above now (Ok (Deadline (Some due))) = ltb now due
+is_above now _ = false
 
-never_true : false ≡ true → ⊥
-never_true e = let z : ◌≡◌ {A = ℕ} 0 1 = cc in omega arith
-
-of_above : (now : ℕ) (answer : Answer) → is_above now answer ≡ true → (due : ℕ) × (answer ≡ Deadline (At due)) × (now < due)
-unfolding is_above case_time
-of_above now (No number) e = absurd (never_true e)
-of_above now Done e = absurd (never_true e)
-of_above now NoAnswer e = absurd (never_true e)
-of_above now (Initiation local) e = absurd (never_true e)
-of_above now (Response local peer) e = absurd (never_true e)
-of_above now (Keepalive peer counter) e = absurd (never_true e)
-of_above now (Granted granted) e = absurd (never_true e)
-of_above now (Polled event) e = absurd (never_true e)
-of_above now (Deadline Never) e = absurd (never_true e)
-of_above now (Deadline (At due)) e = (due, refl, ltb-true now due e)
-of_above now (Report count) e = absurd (never_true e)
-of_above now (Woke wakings) e = absurd (never_true e)
+of_above : (now : ℕ) (answer : Result Answer Error) → is_above now answer ≡ true → (due : ℕ) × (answer ≡ Ok (Deadline (Some due))) × (now < due)
+unfolding is_above
+of_above now (Ok (Deadline (Some due))) e = (due, refl, ltb-true now due e)
+of_above now _ e = cc
 
 -- whether a tunnel is expired
 unfoldable pub test_expired : World → Bool
@@ -107,15 +82,15 @@ unfoldable pub test_held : ℕ → Ran → World → List Step → Bool
 test_held keepalive r w [] = true
 test_held keepalive r w (shared call ∷ steps) = test_held keepalive (ran r call) (step w call).world steps
 test_held keepalive r w (extra jitter now ∷ steps) =
-    choose (choose (test_expired w) true (choose (eqb keepalive 0) true (case_found (current_of r.control.sessions) false (λ session. true))))
+    choose (choose (test_expired w) true (choose (eqb keepalive 0) true (case_option (current_of r.control.sessions) false (λ session. true))))
     (test_held keepalive (ran r (timeout jitter now)) (step w (timeout jitter now)).world steps) false
 
-of_current : (found : Found) → case_found found false (λ session. true) ≡ true → (session : Session) × (found ≡ Got session)
-unfolding case_found
-of_current Nothing e = absurd (never_true e)
-of_current (Got session) e = (session, refl)
+of_current : (found : Option Session) → case_option found false (λ session. true) ≡ true → (session : Session) × (found ≡ Some session)
+unfolding case_option
+of_current None e = cc
+of_current (Some session) e = (session, refl)
 
-held_at : (keepalive : ℕ) (r : Ran) → choose (eqb keepalive 0) true (case_found (current_of r.control.sessions) false (λ session. true)) ≡ true
+held_at : (keepalive : ℕ) (r : Ran) → choose (eqb keepalive 0) true (case_option (current_of r.control.sessions) false (λ session. true)) ≡ true
     → Current r ⊎ (keepalive ≡ 0)
 held_at keepalive r e = elim (of_either (eqb keepalive 0) _ e) [
   | inl k ↦ inr (eqb-true keepalive 0 k)
@@ -123,7 +98,7 @@ held_at keepalive r e = elim (of_either (eqb keepalive 0) _ e) [
 ]
 
 held_alive : (keepalive : ℕ) (r : Ran) (w : World)
-    → choose (test_expired w) true (choose (eqb keepalive 0) true (case_found (current_of r.control.sessions) false (λ session. true))) ≡ true
+    → choose (test_expired w) true (choose (eqb keepalive 0) true (case_option (current_of r.control.sessions) false (λ session. true))) ≡ true
     → (Expired w → ⊥) → Current r ⊎ (keepalive ≡ 0)
 held_alive keepalive r w e alive = elim (of_either (test_expired w) _ e) [
   | inl x ↦ absurd (alive (expired_is w x))
@@ -145,7 +120,7 @@ held_is keepalive r w steps t before later jitter now e =
 -- the third condition
 unfoldable pub none_earlier : ℕ → List Step → Bool
 none_earlier time [] = true
-none_earlier time (shared call ∷ steps) = choose (case_time (time_of call) true (λ now. leb time now)) (none_earlier time steps) false
+none_earlier time (shared call ∷ steps) = choose (case_option (time_of call) true (λ now. leb time now)) (none_earlier time steps) false
 none_earlier time (extra jitter now ∷ steps) = none_earlier time steps
 
 unfoldable pub test_order : List Step → Bool
@@ -153,10 +128,10 @@ test_order [] = true
 test_order (shared call ∷ steps) = test_order steps
 test_order (extra jitter now ∷ steps) = choose (none_earlier now steps) (test_order steps) false
 
-not_earlier : (time : ℕ) (of : Time) → case_time of true (λ now. leb time now) ≡ true → (now : ℕ) → of ≡ At now → time ≤ now
-unfolding case_time
-not_earlier time Never e now p = let z : ◌≡◌ {A = ℕ} 0 1 = cc in absurd (omega arith)
-not_earlier time (At at) e now p = let q : at ≡ now = cc in let l = leb-true time at e in omega arith
+not_earlier : (time : ℕ) (of : Option ℕ) → case_option of true (λ now. leb time now) ≡ true → (now : ℕ) → of ≡ Some now → time ≤ now
+unfolding case_option
+not_earlier time None e now p = cc
+not_earlier time (Some at) e now p = let q : at ≡ now = cc in let l = leb-true time at e in omega arith
 
 none_go : (between later : List Step) (time : ℕ) (call : Call) → none_earlier time (between ++ shared call ∷ later) ≡ true → NotEarlier time call
 unfolding none_earlier

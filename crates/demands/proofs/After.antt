@@ -26,6 +26,7 @@ use Rattle.sessions.specs.Sessions.{empty_slots, new_sessions}
 use Rattle.tunnel.specs.Sound.{Sound}
 use Rattle.tunnel.specs.Tunnel as calls
 use Rattle.tunnel.specs.Tunnel.{Called, answered}
+use Rattle.std.specs.Prelude.{Ok}
 
 -- what calls committed to a session
 abbrev pub past_of : ℕ → World → List Call → Past
@@ -86,7 +87,7 @@ held_new index =
       runs = λ id. record { count = 0; are = no_counters id ∙ none_granted; below = omega arith };
     }
 
-known_new : (index keepalive now : ℕ) (a : Called) → a ≡ record { answered = answered (calls.new_tunnel index keepalive now) Done; store = zeros 1024 }
+known_new : (index keepalive now : ℕ) (a : Called) → a ≡ record { answered = answered (calls.new_tunnel index keepalive now) (Ok Done); store = zeros 1024 }
     → Known [] (λ id. no_past) [] [] [] a.answered.tunnel.control a.store
 unfolding calls.new_tunnel new_control
 known_new index keepalive now a e = rw e (record { held = held_new index; queue = queue_new })

@@ -4,15 +4,13 @@ use mathlib.Core.Path.{◌≡◌, refl, ◌∙◌}
 use mathlib.Core.Bool.{true}
 use mathlib.Core.List.{[], ◌∷◌}
 use lib.ListN.{length}
-use Rattle.base.specs.Choice.{choose}
+use Rattle.base.specs.Choice.{choose, case_option}
 use Rattle.window.specs.Window.{is_invalid}
 use Rattle.window.specs.History.{member, expected, judged, skipped_after}
-use Rattle.sessions.specs.declared.sessions.Found.TheVariants.{Got}
 use Rattle.sessions.specs.Index.{slot_of}
 use Rattle.sessions.specs.Store.{put_slot}
 use Rattle.base.specs.Lists.{zeros}
 use Rattle.sessions.specs.Session.{new_session, empty_session, expired_at}
-use Rattle.sessions.specs.Cases.{case_found}
 use Rattle.sessions.specs.Sessions.{empty_slots, new_sessions, in_slot_of, get, put, inserting, insert}
 use Rattle.sessions.specs.Batch.{known, fits, receiving_session}
 use Rattle.demands.specs.History.{verdict_on, skip_on, recorded, each_on, verdicts_on, skips_on, Stands}
@@ -20,6 +18,7 @@ use Rattle.demands.specs.History.{BatchFor}
 use Rattle.demands.specs.BatchExample.{first_session, first_held}
 use Rattle.demands.specs.BatchExample.{example, BatchExampleLaw}
 use Rattle.demands.proofs.Judged.{inserted_law, batch_law}
+use Rattle.std.specs.Prelude.{Some}
 
 eight_slots : length (new_sessions 256).slots ≡ 8
 unfolding new_sessions empty_slots
@@ -41,8 +40,8 @@ store_first : length first_held.store ≡ 1024
 unfolding first_held first_session new_session new_sessions insert put_slot zeros choose
 store_first = refl
 
-found_first : receiving_session first_held.sessions 257 0 0 ≡ Got first_session
-unfolding first_held first_session new_session new_sessions empty_slots empty_session insert inserting put zeros in_slot_of get receiving_session expired_at case_found choose
+found_first : receiving_session first_held.sessions 257 0 0 ≡ Some first_session
+unfolding first_held first_session new_session new_sessions empty_slots empty_session insert inserting put zeros in_slot_of get receiving_session expired_at case_option choose
 found_first = refl
 
 fits_first : fits (0 ∷ 5 ∷ 0 ∷ []) (0 ∷ 0 ∷ 0 ∷ []) (0 ∷ 0 ∷ 0 ∷ []) (0 ∷ 0 ∷ 0 ∷ []) ≡ true

@@ -25,13 +25,10 @@ use Rattle.sessions.specs.Index.{slot_of}
 use Rattle.sessions.specs.Session.{with_id}
 use Rattle.sessions.specs.Sessions.{slot_at, put, inserting, insert}
 use Rattle.sessions.specs.Store.{slot_words, put_slot}
-use Rattle.sessions.specs.Cases.{case_time}
 use Rattle.sessions.specs.declared.session.Session.{Session}
-use Rattle.sessions.specs.declared.session.Time.TheVariants.{At}
-use Rattle.tunnel.specs.Timers.{time_or}
-use Rattle.sessions.specs.declared.sessions.Found.TheVariants.{Got}
 use Rattle.sessions.specs.declared.sessions.Sessions.{Sessions}
 use Rattle.window.specs.Window.{limit}
+use Rattle.std.specs.Prelude.{Some, unwrap_or}
 
 -- two changes of one slot
 pub changed_on : (s t u : Sessions) (store mid left : List ℕ) (j : ℕ) → Changed s t store mid j → Changed t u mid left j → Changed s u store left j
@@ -144,8 +141,7 @@ module _ (ins : List Insertion) (h : ℕ → Past) (g : List Grant) (s : Session
   unfolding up_from
   none_yet = refl
 
-  heard_inserted : (past : Past) (y : Session) → past ≡ no_past → y ≡ with_id x s.inserted → y.last_heard ≡ time_or past.heard y.established_at
-  unfolding time_or case_time
+  heard_inserted : (past : Past) (y : Session) → past ≡ no_past → y ≡ with_id x s.inserted → y.last_heard ≡ unwrap_or past.heard y.established_at
   heard_inserted past y e f = rw (e, f) heard
 
   pub held_inserted : Held then h g (insert s store x).sessions (insert s store x).store
@@ -175,7 +171,7 @@ module _ (ins : List Insertion) (h : ℕ → Past) (g : List Grant) (s : Session
 
 -- a batch judged
 module _ (ins : List Insertion) (h : ℕ → Past) (g : List Grant) (s : Sessions) (store : List ℕ) (w : Held ins h g s store) (index id now : ℕ)
-    (counters kinds verdicts skips : List ℕ) (x : Session) (fit : fits counters kinds verdicts skips ≡ true) (found : receiving_session s index id now ≡ Got x) where
+    (counters kinds verdicts skips : List ℕ) (x : Session) (fit : fits counters kinds verdicts skips ≡ true) (found : receiving_session s index id now ≡ Some x) where
   abbrev call : BatchCall
   call = record { sessions = s; store = store; index = index; id = id; now = now; counters = counters; kinds = kinds; verdicts = verdicts; skips = skips }
 
@@ -225,15 +221,15 @@ module _ (ins : List Insertion) (h : ℕ → Past) (g : List Grant) (s : Session
   past =
       record {
         history = recorded_all (h id).history counters (batch_of store x counters kinds).verdicts;
-        heard = choose (commits (batch_of store x counters kinds).verdicts) (At now) (h id).heard;
+        heard = choose (commits (batch_of store x counters kinds).verdicts) (Some now) (h id).heard;
       }
 
   -- when the session was last heard then
-  left_heard : left.last_heard ≡ time_or past.heard x.established_at
-  unfolding time_or choose case_time
+  left_heard : left.last_heard ≡ unwrap_or past.heard x.established_at
+  unfolding choose
   left_heard = go (commits (batch_of store x counters kinds).verdicts) refl
     where
-      go : (b : Bool) → commits (batch_of store x counters kinds).verdicts ≡ b → left.last_heard ≡ time_or past.heard x.established_at
+      go : (b : Bool) → commits (batch_of store x counters kinds).verdicts ≡ b → left.last_heard ≡ unwrap_or past.heard x.established_at
       go true e =
           let goes = receive_judged s store index id now counters kinds verdicts skips x w.size fit found in
           (heard_law s store index id now counters kinds verdicts skips).committed left (batch_of store x counters kinds).out (rw goes refl) (rw goes e) ∙ rw e refl

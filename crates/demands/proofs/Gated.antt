@@ -5,9 +5,8 @@ use mathlib.Core.Bool.{Bool, true, false}
 use mathlib.Core.List.{List}
 use Prim.Native.Nat.{ℕ, ◌≤◌}
 use native.Mathlib.Omega.{arith}
-use lib.Dec.{eqb}
-use borrow.Author.Tests.{le-ltb, eqb-true, eqb-false}
-use Rattle.base.specs.Choice.{choose}
+use borrow.Author.Tests.{le-ltb}
+use Rattle.base.specs.Choice.{choose, case_result}
 use Rattle.demands.specs.Calls.Call.{send}
 use Rattle.demands.specs.Calls.{World, step, Expired}
 use Rattle.sessions.specs.Session.{time_limit}
@@ -22,42 +21,44 @@ use Rattle.tunnel.specs.Numbers.{Alive}
 use Rattle.tunnel.specs.Tunnel.{Called, gate, refused, let_through, timed, kept, timed_turn}
 use Rattle.tunnel.specs.declared.control.Out.{Out}
 use Rattle.tunnel.specs.declared.handshake.HandshakeState as states
-use Rattle.tunnel.specs.declared.handshake.HandshakeState.TheVariants.{None, InitSent}
+use Rattle.tunnel.specs.declared.handshake.HandshakeState.TheVariants.{None as NoHandshake, InitSent}
 use Rattle.tunnel.specs.declared.handshake.HandshakeState.{HandshakeState}
 use Rattle.tunnel.specs.declared.tunnel.Tunnel.{Tunnel}
+use Rattle.std.specs.Prelude.{Result, Ok, Err}
+use Rattle.error.specs.declared.Error.{Error}
 
 -- a call at a time that the checks let through
 module _ (t : Tunnel) (bad : Bool) (now : ℕ) where
-  pub gate_open : undamaged t ≡ true → bad ≡ false → now ≤ time_limit → t.greatest ≤ now → gate t bad now ≡ 0
+  pub gate_open : undamaged t ≡ true → bad ≡ false → now ≤ time_limit → t.greatest ≤ now → gate t bad now ≡ Ok tt
   unfolding gate choose
   gate_open u b l g = rw (le-ltb time_limit now l, b, u, le-ltb now t.greatest g) refl
 
-  pub timed_open : (out : Out) → gate t bad now ≡ 0 → (timed t bad now out).answer ≡ out.answer
-  unfolding timed let_through choose
+  pub timed_open : (out : Out) → gate t bad now ≡ Ok tt → (timed t bad now out).answer ≡ out.answer
+  unfolding timed let_through case_result
   timed_open out e = rw e refl
 
 -- a call with a store: what holds of it let through by the checks and of it turned down holds of what it hands back
 module _ (P : Called → Type 0) (t : Tunnel) (bad : Bool) (now : ℕ) (store : List ℕ) (turn : Turn) where
-  pub of_turn : (gate t bad now ≡ 0 → P (record { answered = let_through t now turn.out; store = turn.store }))
-      → ((number : ℕ) → (number ≡ 0 → ⊥) → P (record { answered = refused t number; store = store })) → P (timed_turn t bad now store turn)
-  unfolding timed_turn timed kept choose
-  of_turn p q = go (eqb (gate t bad now) 0) refl
+  pub of_turn : (gate t bad now ≡ Ok tt → P (record { answered = let_through t now turn.out; store = turn.store }))
+      → ((e : Error) → P (record { answered = refused t e; store = store })) → P (timed_turn t bad now store turn)
+  unfolding timed_turn timed kept case_result
+  of_turn p q = go (gate t bad now) refl
     where
-      go : (f : Bool) → eqb (gate t bad now) 0 ≡ f → P (timed_turn t bad now store turn)
-      go true e = rw e (p (eqb-true _ 0 e))
-      go false e = rw e (q (gate t bad now) (eqb-false _ 0 e))
+      go : (r : Result Unit Error) → gate t bad now ≡ r → P (timed_turn t bad now store turn)
+      go (Ok good) s = rw s (p s)
+      go (Err e) s = rw s (q e)
 
 -- the test for an expired tunnel
 test_alive : (state : HandshakeState) → (state ≡ states.TheVariants.Expired → ⊥) → case_state state false (λ local sent. false) true ≡ false
 unfolding case_state
-test_alive None d = refl
+test_alive NoHandshake d = refl
 test_alive (InitSent local sent) d = refl
 test_alive states.TheVariants.Expired d = absurd (d refl)
 
 test_ended : (state : HandshakeState) → case_state state false (λ local sent. false) true ≡ true → state ≡ states.TheVariants.Expired
 unfolding case_state
-test_ended None e = let z : ◌≡◌ {A = ℕ} 0 1 = cc in absurd (omega arith)
-test_ended (InitSent local sent) e = let z : ◌≡◌ {A = ℕ} 0 1 = cc in absurd (omega arith)
+test_ended NoHandshake e = cc
+test_ended (InitSent local sent) e = cc
 test_ended states.TheVariants.Expired e = refl
 
 module _ (t : Tunnel) where
@@ -76,7 +77,7 @@ module _ (t : Tunnel) where
   of_ended : (f : Bool) → expired_control t.control ≡ f → (Alive t → ⊥) → f ≡ true
   of_ended true e d = refl
   of_ended false e d =
-      absurd (d (λ s. let z : expired_control t.control ≡ true = ended_state s in let o : ◌≡◌ {A = ℕ} 0 1 = cc in omega arith))
+      absurd (d (λ s. let z : expired_control t.control ≡ true = ended_state s in cc))
 
 -- 11 is an expired tunnel's
 module _ (w : World) where

@@ -1,23 +1,20 @@
 -- What is known after the operations that grant counters of the current session: a send, and a keepalive.
 -- Assumes nothing.
-use mathlib.Core.Path.{◌≡◌, refl, ap, ◌∙◌}
+use mathlib.Core.Path.{◌≡◌, refl, ap, sym, ◌∙◌}
 use mathlib.Core.Bool.{Bool, true, false}
 use mathlib.Core.List.{List, [], ◌∷◌, ◌++◌}
 use Prim.Native.Nat.{ℕ, ◌+◌, ◌≤◌}
-use native.Mathlib.Omega.{arith}
 use lib.Dec.{leb}
 use lib.ListN.{length}
 use borrow.Author.Tests.{leb-true}
-use Rattle.base.specs.Choice.{choose}
-use Rattle.sessions.specs.Cases.{known_found, known_reserved}
+use Rattle.base.specs.Choice.{choose, case_pair}
 use Rattle.sessions.proofs.Laws.{lookup_law}
-use Rattle.base.proofs.Choice.{of_choice}
+use Rattle.base.proofs.Choice.{of_choice, known_option, known_pair}
 use Rattle.tunnel.specs.Control.{out_of, done, with_sessions, with_timers}
 use Rattle.tunnel.specs.Encapsulate.{begin_encapsulate, finish_encapsulate, grant, send, encrypted, encrypt_keepalive}
-use Rattle.tunnel.specs.declared.answer.Answer.TheVariants.{No, Granted}
+use Rattle.tunnel.specs.declared.answer.Answer.TheVariants.{Granted}
 use Rattle.tunnel.specs.declared.control.Control.{Control}
 use Rattle.tunnel.specs.declared.control.Out.{Out}
-use Rattle.tunnel.specs.declared.encapsulate.Datagram.TheVariants.{Skipped, Sent}
 use Rattle.tunnel.specs.declared.encapsulate.Encrypted.{Encrypted}
 use Rattle.demands.proofs.Changes.{Alike, changed_on, held_marked, held_granted}
 use Rattle.demands.proofs.Held.{Past, Changed}
@@ -31,11 +28,11 @@ use Rattle.sessions.specs.Index.{slot_of}
 use Rattle.sessions.specs.Range.{range}
 use Rattle.sessions.specs.Session.{with_counter, reserve_counters, prepare_packet_data}
 use Rattle.sessions.specs.Sessions.{slot_at, put, current_of, sending_session}
-use Rattle.sessions.specs.declared.session.Reserved.TheVariants.{TooFew, First}
 use Rattle.sessions.specs.declared.session.Session.{Session}
-use Rattle.sessions.specs.declared.sessions.Found.TheVariants.{Got}
 use Rattle.sessions.specs.declared.sessions.Sessions.{Sessions}
 use Rattle.window.specs.Window.{limit}
+use Rattle.std.specs.Prelude.{Err, None, Ok, Option, Some}
+use Rattle.error.specs.declared.Error.TheVariants.{ConnectionExpired, NoCurrentSession}
 
 -- what a reservation grants
 pub record Reserves (x : Session) (len first : ℕ) (y : Session) : Type 0 where
@@ -43,12 +40,17 @@ pub record Reserves (x : Session) (len first : ℕ) (y : Session) : Type 0 where
   pub counted : y ≡ with_counter x (x.sending_key_counter + len)
   pub below : x.sending_key_counter + len ≤ limit
 
-of_granted : (f : Bool) (m n : ℕ) (x y : Session) → choose f (First m x) TooFew ≡ First n y → (f ≡ true) × (n ≡ m) × (y ≡ x)
-unfolding choose
-of_granted true m n x y p = (refl, (cc), (cc))
-of_granted false m n x y p = let z : ◌≡◌ {A = ℕ} 0 1 = cc in absurd (omega arith)
+-- pairs that are one have equal parts
+pub some_parts : {B : Type 0} (a x : ℕ) (b y : B) → ◌≡◌ {A = Option (ℕ × B)} (Some (a, b)) (Some (x, y)) → (a ≡ x) × (b ≡ y)
+unfolding case_pair
+some_parts {B} a x b y e = (ap (λ (o : Option (ℕ × B)). case_pair o a (λ m c. m)) e, ap (λ (o : Option (ℕ × B)). case_pair o b (λ m c. c)) e)
 
-pub reserved : (x : Session) (len first : ℕ) (y : Session) → reserve_counters x len ≡ First first y → Reserves x len first y
+of_granted : (f : Bool) (m n : ℕ) (x y : Session) → choose {A = Option (ℕ × Session)} f (Some (m, x)) None ≡ Some (n, y) → (f ≡ true) × (n ≡ m) × (y ≡ x)
+unfolding choose
+of_granted true m n x y p = (refl, sym (some_parts m n x y p).0, sym (some_parts m n x y p).1)
+of_granted false m n x y p = cc
+
+pub reserved : (x : Session) (len first : ℕ) (y : Session) → reserve_counters x len ≡ Some (first, y) → Reserves x len first y
 unfolding reserve_counters
 reserved x len first y e =
     let p : (leb (x.sending_key_counter + len) limit ≡ true) × (first ≡ x.sending_key_counter) × (y ≡ with_counter x (x.sending_key_counter + len)) =
@@ -57,13 +59,13 @@ reserved x len first y e =
 
 -- counters granted by the current session
 pub record Grants (c : Control) (store : List ℕ) (d : Control) (peer first len : ℕ) (x : Session) : Type 0 where
-  pub current : current_of c.sessions ≡ Got x
+  pub current : current_of c.sessions ≡ Some x
   pub peer_is : x.sending_index ≡ peer
   pub known : (ins : List Insertion) (h : ℕ → Past) (g k : List Grant) (polls : List PolledKeepalive) → Known ins h g k polls c store
       → Known ins h (g ++ granting x.id peer first len ∷ []) k polls d store
 
 -- the current session's counter moved on
-module _ (c d : Control) (store : List ℕ) (x : Session) (len : ℕ) (current : current_of c.sessions ≡ Got x)
+module _ (c d : Control) (store : List ℕ) (x : Session) (len : ℕ) (current : current_of c.sessions ≡ Some x)
     (below : x.sending_key_counter + len ≤ limit) (ring : d.events ≡ c.events) where
   abbrev at : ℕ
   at = slot_of x.receiving_index
@@ -113,13 +115,13 @@ module _ (c d : Control) (store : List ℕ) (x : Session) (len : ℕ) (current :
 
 -- a keepalive skipped or granted
 pub data Encrypts (c : Control) (store : List ℕ) (e : Encrypted) : Type 0 where
-  skips : e.control ≡ c → e.keepalive ≡ Skipped → Encrypts c store e
-  sends : (x : Session) (peer first : ℕ) → Grants c store e.control peer first 1 x → e.keepalive ≡ Sent peer first → e.control.events ≡ c.events
+  skips : e.control ≡ c → e.keepalive ≡ None → Encrypts c store e
+  sends : (x : Session) (peer first : ℕ) → Grants c store e.control peer first 1 x → e.keepalive ≡ Some (peer, first) → e.control.events ≡ c.events
       → Encrypts c store e
 
 module _ (c : Control) (store : List ℕ) (now : ℕ) where
-  sends_counted : (x y : Session) (first : ℕ) → current_of c.sessions ≡ Got x → Reserves x 1 first y
-      → Encrypts c store (encrypted (with_timers (with_sessions c (put c.sessions y)) (tick_last_packet_sent c.timers now)) (Sent y.sending_index first))
+  sends_counted : (x y : Session) (first : ℕ) → current_of c.sessions ≡ Some x → Reserves x 1 first y
+      → Encrypts c store (encrypted (with_timers (with_sessions c (put c.sessions y)) (tick_last_packet_sent c.timers now)) (Some (y.sending_index, first)))
   sends_counted x y first p r =
       rw (r.counted, r.first_is)
       (sends x x.sending_index x.sending_key_counter (grants_once c _ store x 1 p r.below refl refl) refl refl)
@@ -127,20 +129,20 @@ module _ (c : Control) (store : List ℕ) (now : ℕ) where
   pub encrypts : Encrypts c store (encrypt_keepalive c now)
   unfolding encrypt_keepalive
   encrypts =
-      known_found (λ (e : Encrypted). Encrypts c store e) (sending_session c.sessions now) _ _ (skips refl refl)
-      (λ x p. known_reserved (λ (e : Encrypted). Encrypts c store e) (reserve_counters x 1) _ _ (skips refl refl)
+      known_option (λ (e : Encrypted). Encrypts c store e) (sending_session c.sessions now) _ _ (skips refl refl)
+      (λ x p. known_pair (λ (e : Encrypted). Encrypts c store e) (reserve_counters x 1) _ _ (skips refl refl)
       (λ first y q. sends_counted x y first ((lookup_law c.sessions).sending now x p).0 (reserved x 1 first y q)))
 
 -- a send that grants nothing, or a range of the current session
 pub data Sends (c : Control) (store : List ℕ) (out : Out) : Type 0 where
   none : Idle c store out store → Sends c store out
-  some : (x : Session) (peer first len : ℕ) → Grants c store out.control peer first len x → out.answer ≡ Granted (range peer first len) → Sends c store out
+  some : (x : Session) (peer first len : ℕ) → Grants c store out.control peer first len x → out.answer ≡ Ok (Granted (range peer first len)) → Sends c store out
 
-module _ (c : Control) (store : List ℕ) (x : Session) (count now : ℕ) (current : current_of c.sessions ≡ Got x) where
+module _ (c : Control) (store : List ℕ) (x : Session) (count now : ℕ) (current : current_of c.sessions ≡ Some x) where
   abbrev begun : Control
   begun = begin_encapsulate c (prepare_packet_data x) now
 
-  marked : Idle c store (out_of begun (No 12) true false) store
+  marked : Idle c store (out_of begun (Err NoCurrentSession) true false) store
   unfolding begin_encapsulate put prepare_packet_data case_answer
   marked =
       record {
@@ -164,12 +166,12 @@ module _ (c : Control) (store : List ℕ) (x : Session) (count now : ℕ) (curre
   sends_grant : Sends c store (grant c x count now)
   unfolding grant finish_encapsulate
   sends_grant =
-      known_reserved (λ (o : Out). Sends c store o) (reserve_counters (prepare_packet_data x) count) _ _ (none marked)
+      known_pair (λ (o : Out). Sends c store o) (reserve_counters (prepare_packet_data x) count) _ _ (none marked)
       (λ first y q. granted y first (reserved (prepare_packet_data x) count first y q))
 
 pub sends_some : (c : Control) (store : List ℕ) (count now : ℕ) → Sends c store (send c count now)
 unfolding send
 sends_some c store count now =
-    of_choice (λ (o : Out). Sends c store o) _ _ _ (none (idle_refused c store 11))
-    (known_found (λ (o : Out). Sends c store o) (sending_session c.sessions now) _ _ (none (idle_refused c store 12))
+    of_choice (λ (o : Out). Sends c store o) _ _ _ (none (idle_refused c store ConnectionExpired))
+    (known_option (λ (o : Out). Sends c store o) (sending_session c.sessions now) _ _ (none (idle_refused c store NoCurrentSession))
     (λ x p. sends_grant c store x count now ((lookup_law c.sessions).sending now x p).0))

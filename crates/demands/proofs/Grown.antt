@@ -1,4 +1,4 @@
--- Every tunnel grown from a creation that is not turned down is sound, and has no current session if it is expired.
+-- Some tunnel grown from a creation that is not turned down is sound, and has no current session if it is expired.
 -- Assumes nothing.
 use mathlib.Core.Path.{refl, sym, subst}
 use mathlib.Core.List.{List, [], ◌∷◌}
@@ -7,13 +7,13 @@ use Rattle.demands.specs.Calls.Call.{start, restart, send, receive, look, initia
 use Rattle.demands.proofs.Created.{good_made}
 use Rattle.demands.specs.Calls.{Call, World, step, after, Creation, created, Good}
 use Rattle.demands.specs.Grown.{Grown}
-use Rattle.sessions.specs.Cases.{case_selected}
 use Rattle.sessions.specs.Sessions.{new_sessions, current_of}
 use Rattle.tunnel.proofs.Laws.{sound_law, created_law, expired_law}
 use Rattle.tunnel.specs.AfterStates.{NoneCurrent}
 use Rattle.tunnel.specs.Control.{new_control}
 use Rattle.tunnel.specs.Sound.{Sound}
 use Rattle.tunnel.specs.Tunnel.{new_tunnel}
+use Rattle.base.specs.Choice.{case_option}
 
 -- a step
 pub sound_step : (w : World) (call : Call) → Sound w.tunnel → Sound (step w call).world.tunnel
@@ -67,7 +67,7 @@ none_after [] w n = n
 none_after (call ∷ calls) w n = none_after calls (step w call).world (none_step w call n)
 
 none_new : (index keepalive now : ℕ) → NoneCurrent (new_tunnel index keepalive now)
-unfolding new_tunnel new_control new_sessions current_of case_selected
+unfolding new_tunnel new_control new_sessions current_of case_option
 none_new index keepalive now e = refl
 
 pub none_current : (c : Creation) → Good c → (calls : List Call) → NoneCurrent (after (created c) calls).tunnel

@@ -20,12 +20,10 @@ use Rattle.sessions.specs.Laws.{InSlot}
 use Rattle.sessions.specs.Sessions.{slot_at}
 use Rattle.sessions.specs.Store.{slot_words}
 use Rattle.sessions.specs.declared.session.Session.{Session}
-use Rattle.sessions.specs.declared.session.Time.TheVariants.{Never}
-use Rattle.sessions.specs.declared.session.Time.{Time}
 use Rattle.sessions.specs.declared.sessions.Sessions.{Sessions}
-use Rattle.tunnel.specs.Timers.{time_or}
 use Rattle.window.specs.History.{Represents}
 use Rattle.window.specs.Window.{limit}
+use Rattle.std.specs.Prelude.{None, Option, unwrap_or}
 
 -- the counters of grants, and of those that follow
 pub counters_on : (id : ℕ) (g h : List Grant) → counters_of id (g ++ h) ≡ counters_of id g ++ counters_of id h
@@ -71,11 +69,11 @@ longer_on ins more = record { long = rw (length-append ins more) (omega arith); 
 -- what calls committed to a session: its history, and the time of the last batch that committed
 pub record Past : Type 0 where
   pub history : List ℕ
-  pub heard : Time
+  pub heard : Option ℕ
 
 -- the past of a session to which nothing was committed
 abbrev pub no_past : Past
-no_past = record { history = []; heard = Never }
+no_past = record { history = []; heard = None }
 
 -- a filled slot's record and words, with the insertions, the pasts and the grants of all sessions
 pub record SlotHeld (ins : List Insertion) (h : ℕ → Past) (g : List Grant) (slot : ℕ) (x : Session) (words : List ℕ) : Type 0 where
@@ -83,7 +81,7 @@ pub record SlotHeld (ins : List Insertion) (h : ℕ → Past) (g : List Grant) (
   pub named : x.id < length ins
   pub message : insertion_at ins x.id ≡ message_in x
   pub stands : Represents (h x.id).history words x.next
-  pub heard : x.last_heard ≡ time_or (h x.id).heard x.established_at
+  pub heard : x.last_heard ≡ unwrap_or (h x.id).heard x.established_at
   pub granted : counters_of x.id g ≡ up_from 0 x.sending_key_counter
 
 -- sessions and a store after insertions

@@ -8,10 +8,10 @@ use native.Mathlib.Omega.{arith}
 use lib.Dec.{eqb}
 use lib.ListN.{length, get_or, set}
 use lib.Seq.{get_or-set_same}
-use borrow.Author.Tests.{eqb-true, eqb-false, eq-eqb, ne_eqb}
-use Rattle.base.specs.Choice.{choose}
-use Rattle.window.specs.Window.{limit, will_accept, next_after, words_after, skipped_by}
-use Rattle.window.specs.History.{member, expected, judged, skipped_after, Skips, Represents, commit_to}
+use borrow.Author.Tests.{eqb-false, eq-eqb, ne_eqb}
+use Rattle.base.specs.Choice.{choose, case_option, case_result}
+use Rattle.window.specs.Window.{limit, will_accept}
+use Rattle.window.specs.History.{member, expected, judged, Skips, Represents, commit_to}
 use Rattle.window.proofs.Laws.{fresh_law, judged_law, standing_law}
 use Rattle.sessions.specs.declared.batch.Progress.{Progress}
 use Rattle.sessions.specs.declared.session.Session.{Session}
@@ -20,14 +20,15 @@ use Rattle.sessions.specs.Index.{slot_of}
 use Rattle.sessions.specs.Store.{slot_words, put_slot}
 use Rattle.base.specs.Lists.{zeros}
 use Rattle.sessions.specs.Session.{empty_session, with_id}
-use Rattle.sessions.specs.Cases.{case_found}
 use Rattle.sessions.specs.Sessions.{slot_at, put, inserting, insert}
 use Rattle.demands.specs.History.{verdict_on, skip_on, recorded, recorded_all, each_on, verdicts_on, skips_on, Stands, VerdictLaw, BatchLaw, InsertedLaw, BatchCall, BatchFor}
 use Rattle.sessions.proofs.Laws.{lookup_law, slot_law}
 use Rattle.sessions.specs.Laws.{InSlot}
 use Rattle.sessions.specs.Batch.{Batched, fits, receiving_session, finish_receive_packet_data, finish_all, after_batch, receive}
-use Rattle.sessions.specs.declared.batch.Received.TheVariants.{Judged}
-use Rattle.sessions.specs.declared.sessions.Found.TheVariants.{Got}
+use Rattle.std.specs.Prelude.{Result, Ok, Err, Some}
+use Rattle.error.proofs.Laws.{positive_law}
+use Rattle.error.specs.Error.{error_number, verdict_number}
+use Rattle.error.specs.declared.Error.{Error}
 
 module _ (store : List ℕ) (x : Session) (counters kinds : List ℕ) where
   -- the messages judged over the words of a session's slot
@@ -44,32 +45,25 @@ session_after store x now counters kinds = after_batch x (batch_of store x count
 
 -- what a batch that is not turned down hands back
 pub receive_judged : (s : Sessions) (store : List ℕ) (index id now : ℕ) (counters kinds verdicts skips : List ℕ) (x : Session)
-    → length store ≡ 1024 → fits counters kinds verdicts skips ≡ true → receiving_session s index id now ≡ Got x
+    → length store ≡ 1024 → fits counters kinds verdicts skips ≡ true → receiving_session s index id now ≡ Some x
     → receive s store index id now counters kinds verdicts skips
     ≡ record {
-      out = Judged (session_after store x now counters kinds) (batch_of store x counters kinds).out;
+      out = Ok ((session_after store x now counters kinds), (batch_of store x counters kinds).out);
       store = store_after store x counters kinds;
       verdicts = (batch_of store x counters kinds).verdicts;
       skips = (batch_of store x counters kinds).skips;
     }
-unfolding receive case_found choose
+unfolding receive case_option choose
 receive_judged s store index id now counters kinds verdicts skips x l f g = rw (eq-eqb (length store) 1024 l, f, g)
 
 -- one message
 module _ (history words : List ℕ) (p : Progress) (r : Represents history words p.next) (c k : ℕ) where
-  rule : will_accept words p.next c ≡ judged history c
+  rule : verdict_number (will_accept words p.next c) ≡ judged history c
   rule = (standing_law history words p.next r).judges c
 
-  after_is : Represents (commit_to history c) (words_after words p.next c) (next_after words p.next c)
-  after_is = (standing_law history words p.next r).stands c
-
-  skip_rule : skipped_by words p.next c ≡ skipped_after history c
-  skip_rule = (standing_law history words p.next r).skips c
-
-  -- a refused counter adds nothing to the history
-  stays : eqb (judged history c) 0 ≡ false → commit_to history c ≡ history
-  unfolding commit_to choose
-  stays e = rw e
+  -- a refused counter has another number than 0
+  refused_number : (error : Error) → will_accept words p.next c ≡ Err error → judged history c ≡ 0 → ⊥
+  refused_number error e z = let n : error_number error ≡ judged history c = rw e at rule in omega (arith, n, z, positive_law error)
 
   -- what is recorded of a message is what the window commits of it
   recorded_failed : eqb k 2 ≡ true → recorded history c (verdict_on history c k) ≡ history
@@ -80,33 +74,40 @@ module _ (history words : List ℕ) (p : Progress) (r : Represents history words
   unfolding recorded verdict_on commit_to choose
   recorded_opened e = rw e
 
-  verdict_by : (b d : Bool) → eqb k 2 ≡ b → eqb (judged history c) 0 ≡ d → (finish_receive_packet_data words p c k).finished.verdict ≡ verdict_on history c k
-  unfolding finish_receive_packet_data verdict_on choose
-  verdict_by true d e f = rw e
-  verdict_by false true e f = rw (e, rule, f) (sym (eqb-true (judged history c) 0 f))
-  verdict_by false false e f = rw (e, rule, f)
+  -- a refused counter adds nothing to the history
+  recorded_refused : eqb k 2 ≡ false → (judged history c ≡ 0 → ⊥) → recorded history c (verdict_on history c k) ≡ history
+  unfolding commit_to choose
+  recorded_refused e d = recorded_opened e ∙ rw (ne_eqb (judged history c) 0 d)
 
-  skip_by : (b d : Bool) → eqb k 2 ≡ b → eqb (judged history c) 0 ≡ d → (finish_receive_packet_data words p c k).finished.skipped ≡ skip_on history c k
-  unfolding finish_receive_packet_data skip_on skipped_after choose
-  skip_by true d e f = rw e
-  skip_by false true e f = rw (e, rule, f) (skip_rule ∙ (unfold skipped_after choose in rw f))
-  skip_by false false e f = rw (e, rule, f)
+  verdict_by : (b : Bool) (v : Result Unit Error) → eqb k 2 ≡ b → will_accept words p.next c ≡ v
+      → verdict_number (finish_receive_packet_data words p c k).finished.verdict ≡ verdict_on history c k
+  unfolding finish_receive_packet_data verdict_on case_result choose
+  verdict_by true v e f = rw e refl
+  verdict_by false (Ok good) e f = rw (e, f) (rw f at rule)
+  verdict_by false (Err error) e f = rw (e, f) (rw f at rule)
 
-  stands_by : (b d : Bool) → eqb k 2 ≡ b → eqb (judged history c) 0 ≡ d
+  skip_by : (b : Bool) (v : Result Unit Error) → eqb k 2 ≡ b → will_accept words p.next c ≡ v
+      → (finish_receive_packet_data words p c k).finished.skipped ≡ skip_on history c k
+  unfolding finish_receive_packet_data skip_on case_result choose
+  skip_by true v e f = rw e refl
+  skip_by false (Ok good) e f = rw (e, f) ((standing_law history words p.next r).skips c)
+  skip_by false (Err error) e f = rw (e, f) (sym ((judged_law history c).skips.refused (refused_number error f)))
+
+  stands_by : (b : Bool) (v : Result Unit Error) → eqb k 2 ≡ b → will_accept words p.next c ≡ v
       → Represents (recorded history c (verdict_on history c k)) (finish_receive_packet_data words p c k).words (finish_receive_packet_data words p c k).finished.progress.next
-  unfolding finish_receive_packet_data choose
-  stands_by true d e f = rw (recorded_failed e, e) r
-  stands_by false true e f = rw (recorded_opened e, e, rule, f) after_is
-  stands_by false false e f = rw (recorded_opened e, e, rule, f) (rw (stays f) r)
+  unfolding finish_receive_packet_data case_result choose
+  stands_by true v e f = rw (recorded_failed e, e) r
+  stands_by false (Ok good) e f = rw (recorded_opened e, e, f) ((standing_law history words p.next r).stands c)
+  stands_by false (Err error) e f = rw (recorded_refused e (refused_number error f), e, f) r
 
-  message_verdict : (finish_receive_packet_data words p c k).finished.verdict ≡ verdict_on history c k
-  message_verdict = verdict_by (eqb k 2) (eqb (judged history c) 0) refl refl
+  message_verdict : verdict_number (finish_receive_packet_data words p c k).finished.verdict ≡ verdict_on history c k
+  message_verdict = verdict_by (eqb k 2) (will_accept words p.next c) refl refl
 
   message_skip : (finish_receive_packet_data words p c k).finished.skipped ≡ skip_on history c k
-  message_skip = skip_by (eqb k 2) (eqb (judged history c) 0) refl refl
+  message_skip = skip_by (eqb k 2) (will_accept words p.next c) refl refl
 
   message_stands : Represents (recorded history c (verdict_on history c k)) (finish_receive_packet_data words p c k).words (finish_receive_packet_data words p c k).finished.progress.next
-  message_stands = stands_by (eqb k 2) (eqb (judged history c) 0) refl refl
+  message_stands = stands_by (eqb k 2) (will_accept words p.next c) refl refl
 
 -- the messages of a batch, in order
 judges_all : (history words : List ℕ) (p : Progress) → Represents history words p.next → (counters kinds : List ℕ)

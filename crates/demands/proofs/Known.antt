@@ -5,13 +5,14 @@ use mathlib.Core.Bool.{Bool, false}
 use mathlib.Core.List.{List, [], ◌++◌, append-nil}
 use Prim.Native.Nat.{ℕ}
 use native.Mathlib.Omega.{arith}
-use Rattle.base.proofs.Choice.{of_choice}
-use Rattle.sessions.specs.Cases.{of_found, case_missing}
-use Rattle.tunnel.specs.Control.{with_handshake, out_of, refuse, done, queueing, poll_event, missing_report}
+use Rattle.base.proofs.Choice.{of_choice, of_option, of_result}
+use Rattle.error.proofs.Laws.{positive_law}
+use Rattle.tunnel.specs.Answer.{number_of}
+use Rattle.tunnel.specs.Control.{out_of, refuse, done, queueing, poll_event, missing_report}
 use Rattle.tunnel.specs.InitiateHandshake.{initiate, initiating, restart_handshake, start_handshake}
 use Rattle.tunnel.specs.HandleHandshake.{handle_cookie_reply}
 use Rattle.tunnel.specs.Decapsulate.{begin_decapsulate, confirm_first_session}
-use Rattle.tunnel.specs.declared.answer.Answer.TheVariants.{No, Done, NoAnswer, Initiation, Response, Keepalive, Granted, Polled, Deadline, Report, Woke}
+use Rattle.tunnel.specs.declared.answer.Answer.TheVariants.{NoAnswer, Keepalive, Granted, Polled, Deadline}
 use Rattle.tunnel.specs.declared.answer.Answer.{Answer}
 use Rattle.tunnel.specs.declared.control.Control.{Control}
 use Rattle.tunnel.specs.declared.control.Out.{Out}
@@ -21,41 +22,38 @@ use Rattle.demands.proofs.Queued.{keepalive_in, Queue, queue_push, queue_pop}
 use Rattle.demands.specs.Calls.{World}
 use Rattle.demands.specs.Made.{case_answer, Insertion}
 use Rattle.demands.specs.Sending.{Grant, answered_grant, PolledKeepalive, polled_by}
-use Rattle.tunnel.specs.Cases.{case_cookie, case_event}
+use Rattle.tunnel.specs.Cases.{case_event}
 use Rattle.tunnel.specs.declared.event.Event.TheVariants.{Established}
 use Rattle.tunnel.specs.declared.event.Event.{Event}
-use Rattle.tunnel.specs.declared.handshake.Cookie.TheVariants.{Unusable, Stored}
-use Rattle.tunnel.specs.declared.handshake.Cookie.{Cookie}
 use Rattle.sessions.specs.declared.range.Range.{Range}
-use Rattle.sessions.specs.declared.session.Time.{Time}
-use Rattle.sessions.specs.declared.sessions.Missing.TheVariants.{Refused, Count}
-use Rattle.sessions.specs.declared.sessions.Missing.{Missing}
+use Rattle.base.specs.Choice.{case_option}
+use Rattle.error.specs.declared.Error.TheVariants.{ConnectionExpired, NoCurrentSession}
+use Rattle.std.specs.Prelude.{Err, Ok, Option, Result, Some}
+use Rattle.error.specs.declared.Error.{Error}
 
 -- after these insertions, with these pasts, grants, grants of wakings and keepalives polled
 pub record Known (ins : List Insertion) (h : ℕ → Past) (g k : List Grant) (polls : List PolledKeepalive) (c : Control) (store : List ℕ) : Type 0 where
   pub held : Held ins h g c.sessions store
   pub queue : Queue k polls c.events
 
+-- the number of a reason is not 0
+pub turned_number : (e : Error) → number_of (Err e) ≡ 0 → ⊥
+unfolding number_of
+turned_number e z = omega (arith, z, positive_law e)
+
 -- an answer that stands for no grant and no keepalive polled
-pub record Plain (answer : Answer) : Type 0 where
+pub record Plain (answer : Result Answer Error) : Type 0 where
   pub granted : (count : ℕ) (w : World) → answered_grant count w answer ≡ []
   pub polled : polled_by answer ≡ []
-  pub ungranted : (range : Range) → answer ≡ Granted range → ⊥
+  pub ungranted : (range : Range) → answer ≡ Ok (Granted range) → ⊥
 
 -- every answer is one but a granted range, a keepalive and an event
-pub plain_of : (answer : Answer) → ◌≡◌ {A = ℕ} (case_answer answer (λ range. 1) (λ peer counter. 1) (λ event. 1) 0) 0 → Plain answer
+pub plain_of : (answer : Result Answer Error) → ◌≡◌ {A = ℕ} (case_answer answer (λ range. 1) (λ peer counter. 1) (λ event. 1) 0) 0 → Plain answer
 unfolding answered_grant polled_by case_answer
-plain_of (Granted range) e = absurd (omega (arith, e))
-plain_of (Keepalive peer counter) e = absurd (omega (arith, e))
-plain_of (Polled event) e = absurd (omega (arith, e))
-plain_of (No number) e = record { granted = λ n w. refl; polled = refl; ungranted = λ r p. (let z : ◌≡◌ {A = ℕ} 0 1 = cc in omega arith) }
-plain_of Done e = record { granted = λ n w. refl; polled = refl; ungranted = λ r p. (let z : ◌≡◌ {A = ℕ} 0 1 = cc in omega arith) }
-plain_of NoAnswer e = record { granted = λ n w. refl; polled = refl; ungranted = λ r p. (let z : ◌≡◌ {A = ℕ} 0 1 = cc in omega arith) }
-plain_of (Initiation local) e = record { granted = λ n w. refl; polled = refl; ungranted = λ r p. (let z : ◌≡◌ {A = ℕ} 0 1 = cc in omega arith) }
-plain_of (Response local peer) e = record { granted = λ n w. refl; polled = refl; ungranted = λ r p. (let z : ◌≡◌ {A = ℕ} 0 1 = cc in omega arith) }
-plain_of (Deadline time) e = record { granted = λ n w. refl; polled = refl; ungranted = λ r p. (let z : ◌≡◌ {A = ℕ} 0 1 = cc in omega arith) }
-plain_of (Report count) e = record { granted = λ n w. refl; polled = refl; ungranted = λ r p. (let z : ◌≡◌ {A = ℕ} 0 1 = cc in omega arith) }
-plain_of (Woke wakings) e = record { granted = λ n w. refl; polled = refl; ungranted = λ r p. (let z : ◌≡◌ {A = ℕ} 0 1 = cc in omega arith) }
+plain_of (Ok (Granted range)) e = absurd (omega (arith, e))
+plain_of (Ok (Keepalive peer counter)) e = absurd (omega (arith, e))
+plain_of (Ok (Polled event)) e = absurd (omega (arith, e))
+plain_of _ e = record { granted = λ n w. refl; polled = refl; ungranted = λ r p. cc }
 
 -- the same insertions, grants and keepalives, said otherwise
 pub known_as : (ins m : List Insertion) (h : ℕ → Past) (g f k l : List Grant) (polls z : List PolledKeepalive) (c : Control) (store : List ℕ)
@@ -80,12 +78,12 @@ known_carried ins h g k polls c d store left a e w = record { held = held_carrie
 
 -- an event queued that is no keepalive
 known_queued : (ins : List Insertion) (h : ℕ → Past) (g k : List Grant) (polls : List PolledKeepalive) (c : Control) (event : Event) (store : List ℕ)
-    → keepalive_in event ≡ [] → Known ins h g k polls c store → Known ins h g k polls (queueing c event) store
+    → keepalive_in (Some event) ≡ [] → Known ins h g k polls c store → Known ins h g k polls (queueing c event) store
 unfolding queueing
 known_queued ins h g k polls c event store e w = record { held = w.held; queue = queue_push k polls c.events w.queue event e }
 
-established_none : (a b : ℕ) → keepalive_in (Established a b) ≡ []
-unfolding polled_by case_answer case_event
+established_none : (a b : ℕ) → keepalive_in (Some (Established a b)) ≡ []
+unfolding polled_by case_answer case_option case_event
 established_none a b = refl
 
 -- the first session confirmed
@@ -99,12 +97,12 @@ known_confirmed ins h g k polls c started now store w =
 
 module _ (c : Control) (store : List ℕ) where
   -- the operations that leave the control as it was
-  unmoved : (answer : Answer) (raises updates : Bool) → Plain answer → Idle c store (out_of c answer raises updates) store
+  unmoved : (answer : Result Answer Error) (raises updates : Bool) → Plain answer → Idle c store (out_of c answer raises updates) store
   unmoved answer raises updates p = record { known = λ ins h g k polls w. w; plain = p }
 
-  pub idle_refused : (number : ℕ) → Idle c store (refuse c number) store
+  pub idle_refused : (e : Error) → Idle c store (refuse c e) store
   unfolding refuse case_answer
-  idle_refused number = unmoved _ _ _ (plain_of _ refl)
+  idle_refused e = unmoved _ _ _ (plain_of _ refl)
 
   idle_nothing : Idle c store (done c NoAnswer) store
   unfolding done case_answer
@@ -128,24 +126,18 @@ module _ (c : Control) (store : List ℕ) where
   pub idle_look : (index counter now : ℕ) → Idle c store (begin_decapsulate c store index counter now) store
   unfolding begin_decapsulate case_answer
   idle_look index counter now =
-      of_choice (λ (o : Out). Idle c store o store) _ _ _ (idle_refused 11)
-      (of_found (λ (o : Out). Idle c store o store) _ _ _ (idle_refused 12)
-      (λ session. of_choice (λ (o : Out). Idle c store o store) _ _ _ (idle_refused 12)
-      (of_choice (λ (o : Out). Idle c store o store) _ _ _ (unmoved _ _ _ (plain_of _ refl)) (idle_refused _))))
+      of_choice (λ (o : Out). Idle c store o store) _ _ _ (idle_refused ConnectionExpired)
+      (of_option (λ (o : Out). Idle c store o store) _ _ _ (idle_refused NoCurrentSession)
+      (λ session. of_choice (λ (o : Out). Idle c store o store) _ _ _ (idle_refused NoCurrentSession)
+      (of_result (λ (o : Out). Idle c store o store) _ _ _ idle_refused (λ good. unmoved _ _ _ (plain_of _ refl)))))
 
   -- a cookie reply
-  of_cookie : (reply : Cookie) → Idle c store (case_cookie reply (λ number. refuse c number) (λ handshake. done (with_handshake c handshake) Done)) store
-  unfolding case_cookie done case_answer
-  of_cookie (Unusable number) = idle_refused number
-  of_cookie (Stored handshake) =
-      record {
-        known = λ ins h g k polls w. record { held = w.held; queue = w.queue };
-        plain = plain_of _ refl;
-      }
-
-  pub idle_cookie : (receiver outcome now : ℕ) → Idle c store (handle_cookie_reply c receiver outcome now) store
-  unfolding handle_cookie_reply
-  idle_cookie receiver outcome now = of_choice (λ (o : Out). Idle c store o store) _ _ _ (idle_refused 11) (of_cookie _)
+  pub idle_cookie : (receiver : ℕ) (outcome : Result Unit Error) (now : ℕ) → Idle c store (handle_cookie_reply c receiver outcome now) store
+  unfolding handle_cookie_reply done case_answer
+  idle_cookie receiver outcome now =
+      of_choice (λ (o : Out). Idle c store o store) _ _ _ (idle_refused ConnectionExpired)
+      (of_result (λ (o : Out). Idle c store o store) _ _ _ idle_refused
+      (λ handshake. record { known = λ ins h g k polls w. record { held = w.held; queue = w.queue }; plain = plain_of _ refl }))
 
   -- the oldest event, polled
   pub known_event : (ins : List Insertion) (h : ℕ → Past) (g k : List Grant) (polls : List PolledKeepalive) → Known ins h g k polls c store
@@ -158,16 +150,11 @@ module _ (c : Control) (store : List ℕ) where
   ungranted_event count w = refl
 
   -- the deadline
-  pub idle_deadline : (time : Time) → Idle c store (out_of c (Deadline time) false false) store
+  pub idle_deadline : (time : Option ℕ) → Idle c store (out_of c (Ok (Deadline time)) false false) store
   unfolding case_answer
   idle_deadline time = unmoved _ _ _ (plain_of _ refl)
 
   -- the missing report
-  of_missing : (found : Missing) → Idle c store (case_missing found (λ number. refuse c number) (λ count. out_of c (Report count) false false)) store
-  unfolding case_missing case_answer
-  of_missing (Refused number) = idle_refused number
-  of_missing (Count count) = unmoved _ _ _ (plain_of _ refl)
-
   pub idle_missing : (index : ℕ) → Idle c store (missing_report c store index) store
-  unfolding missing_report
-  idle_missing index = of_missing _
+  unfolding missing_report case_answer
+  idle_missing index = of_result (λ (o : Out). Idle c store o store) _ _ _ idle_refused (λ count. unmoved _ _ _ (plain_of _ refl))

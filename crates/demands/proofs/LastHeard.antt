@@ -13,7 +13,6 @@ use Rattle.demands.specs.LastHeard.{LastHeardLaw, LastHeard}
 use Rattle.demands.specs.Made.{Insertion}
 use Rattle.demands.specs.Sending.{Grant, PolledKeepalive}
 use Rattle.sessions.proofs.Laws.{lookup_law}
-use Rattle.sessions.specs.Cases.{case_time}
 use Rattle.sessions.specs.Sessions.{slot_at}
 use Rattle.sessions.specs.Store.{slot_words}
 use Rattle.sessions.specs.declared.session.Session.{Session}
@@ -21,7 +20,6 @@ use Rattle.sessions.specs.declared.sessions.Sessions.{Sessions}
 use Rattle.tunnel.proofs.Laws.{undamaged_law}
 use Rattle.tunnel.specs.Damage.{undamaged}
 use Rattle.tunnel.specs.Facts.{SlotWithin}
-use Rattle.tunnel.specs.Timers.{time_or}
 
 module _ (w : World) (u : undamaged w.tunnel ≡ true) (ins : List Insertion) (h : ℕ → Past) (g k : List Grant) (polls : List PolledKeepalive)
     (y : Known ins h g k polls w.tunnel.control w.store) (slot : ℕ) (low : slot < 8) where
@@ -32,7 +30,6 @@ module _ (w : World) (u : undamaged w.tunnel ≡ true) (ins : List Insertion) (h
   x = slot_at s slot
 
   says : x.filled ≡ true → LastHeardLaw w x (insertion_at ins x.id).at (h x.id).heard
-  unfolding time_or case_time
   says filled =
       let its : SlotHeld ins h g slot x (slot_words w.store slot) = y.held.slots slot low filled in
       let within : SlotWithin x slot w.tunnel.greatest = (undamaged_law.facts w.tunnel u).control.sessions.slots slot low filled in

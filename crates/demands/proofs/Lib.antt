@@ -2,6 +2,7 @@ pub mod Admits
 pub mod After
 pub mod BatchExample
 pub mod Changes
+pub mod Computing
 pub mod Created
 pub mod Example
 pub mod Gated

@@ -8,11 +8,11 @@ use native.Mathlib.Omega.{arith}
 use lib.Dec.{eqb}
 use lib.ListN.{length, get_or}
 use borrow.Author.Tests.{eq-eqb, le-leb}
-use Rattle.base.specs.Choice.{choose}
+use Rattle.base.specs.Choice.{choose, case_option, case_result}
 use Rattle.base.proofs.Sums.{sum_cong, sum_parted, cycled_again}
 use Rattle.window.specs.History.{member, expected, seen, among_last, past, Represents}
 use Rattle.window.specs.Window.{bit_at, check_bit}
-use Rattle.tunnel.specs.Control.{refuse, missing_report}
+use Rattle.tunnel.specs.Control.{refuse, missing_report, out_of}
 use Rattle.tunnel.specs.declared.answer.Answer.{Answer}
 use Rattle.tunnel.specs.declared.answer.Answer.TheVariants.{Report}
 use Rattle.demands.proofs.After.{known_run}
@@ -28,17 +28,17 @@ use Rattle.demands.specs.Sending.{Grant, PolledKeepalive}
 use Rattle.sessions.proofs.Laws.{no_report_law}
 use Rattle.sessions.specs.Index.{slot_of}
 use Rattle.sessions.specs.Sessions as sessions
-use Rattle.sessions.specs.Cases.{case_found, case_missing}
 use Rattle.sessions.specs.Sessions.{slot_at, in_slot_of, get}
 use Rattle.sessions.specs.Store.{slot_words, missing_of}
 use Rattle.sessions.specs.declared.session.Session.{Session}
-use Rattle.sessions.specs.declared.sessions.Found.TheVariants.{Got}
-use Rattle.sessions.specs.declared.sessions.Missing.TheVariants.{Count}
 use Rattle.sessions.specs.declared.sessions.Sessions.{Sessions}
 use Rattle.tunnel.specs.Answer.{number_of, values_of}
 use Rattle.tunnel.specs.Arguments.{lacking}
 use Rattle.tunnel.specs.Sound.{Sound}
 use Rattle.tunnel.specs.Tunnel.{timeless_gate, let_through, timeless, call_missing}
+use Rattle.error.specs.Error.{error_number}
+use Rattle.std.specs.Prelude.{Ok, Some, Result, Err}
+use Rattle.error.specs.declared.Error.{Error}
 
 -- a counter of the history's window is missing or committed
 parted : (b : Bool) → choose b 0 1 + choose b 1 0 ≡ 1
@@ -85,16 +85,24 @@ module _ (w : World) (ins : List Insertion) (h : ℕ → Past) (g k : List Grant
   abbrev s : Sessions
   s = w.tunnel.control.sessions
 
-  passes : timeless_gate w.tunnel (lacking w.store) ≡ 0
+  passes : timeless_gate w.tunnel (lacking w.store) ≡ Ok tt
   unfolding timeless_gate lacking choose
   passes = rw (eq-eqb (length w.store) 1024 y.held.size, sound.holds)
+
+  -- a report that is turned down by 12
+  turned_twelve : (found : Result ℕ Error) → case_result found error_number (λ count. 0) ≡ 12
+      → number_of (case_result found (refuse w.tunnel.control) (λ count. out_of w.tunnel.control (Ok (Report count)) false false)).answer ≡ 12
+  unfolding case_result refuse number_of
+  turned_twelve (Err e) n = n
+  turned_twelve (Ok count) n = absurd (omega (arith, n))
 
   -- an index that no filled slot holds
   unheld : (index : ℕ) → ((slot : ℕ) → slot < 8 → (slot_at s slot).filled ≡ true → (slot_at s slot).receiving_index ≡ index → ⊥)
       → number_of (step w (missing index)).answer ≡ 12
-  unfolding step call_missing timeless let_through missing_report case_missing refuse number_of choose
+  unfolding step call_missing timeless let_through missing_report case_result
   unheld index none =
-      rw (passes, (no_report_law s w.store index (λ x i. none (slot_of index) (omega arith) (rw i.stored i.filled) (rw i.stored i.named)) y.held.size).number) refl
+      rw passes
+      (turned_twelve _ (no_report_law s w.store index (λ x i. none (slot_of index) (omega arith) (rw i.stored i.filled) (rw i.stored i.named)) y.held.size).number)
 
   -- a filled slot
   module _ (slot : ℕ) (low : slot < 8) (filled : (slot_at s slot).filled ≡ true) where
@@ -104,22 +112,22 @@ module _ (w : World) (ins : List Insertion) (h : ℕ → Past) (g k : List Grant
     its : SlotHeld ins h g slot x (slot_words w.store slot)
     its = y.held.slots slot low filled
 
-    found : get s x.receiving_index ≡ Got x
-    unfolding get in_slot_of case_found choose
+    found : get s x.receiving_index ≡ Some x
+    unfolding get in_slot_of case_option choose
     found = rw (its.placed, filled, eq-eqb x.receiving_index x.receiving_index refl)
 
     counts : CountLaw (h x.id).history (slot_words w.store slot) x.next
     counts = count_law (h x.id).history (slot_words w.store slot) x.next its.stands
 
-    missed : sessions.missing s w.store x.receiving_index ≡ Count (uncommitted (h x.id).history)
-    unfolding sessions.missing case_found choose
-    missed = rw (eq-eqb (length w.store) 1024 y.held.size, found, its.placed) (ap Count counts.counts)
+    missed : sessions.missing s w.store x.receiving_index ≡ Ok (uncommitted (h x.id).history)
+    unfolding sessions.missing case_option choose
+    missed = rw (eq-eqb (length w.store) 1024 y.held.size, found, its.placed) (ap Ok counts.counts)
 
-    reported : (step w (missing x.receiving_index)).answer ≡ Report (uncommitted (h x.id).history)
-    unfolding step call_missing timeless let_through missing_report case_missing choose
+    reported : (step w (missing x.receiving_index)).answer ≡ Ok (Report (uncommitted (h x.id).history))
+    unfolding step call_missing timeless let_through missing_report case_result choose
     reported = rw (passes, missed)
 
-    abbrev answer : Answer
+    abbrev answer : Result Answer Error
     answer = (step w (missing x.receiving_index)).answer
 
     value : values_of answer ≡ uncommitted (h x.id).history ∷ []

@@ -9,9 +9,8 @@ use native.Mathlib.Omega.{arith}
 use lib.Dec.{eqb}
 use lib.ListN.{length, get_or, set, length-set, get_or-replicate, length-replicate}
 use lib.Seq.{get_or-set_same, get_or-set_other}
-use Rattle.base.specs.Choice.{choose}
-use Rattle.base.proofs.Choice.{of_choice}
-use Rattle.sessions.specs.Cases.{of_found, case_found, case_selected}
+use Rattle.base.specs.Choice.{choose, case_option}
+use Rattle.base.proofs.Choice.{of_choice, of_option}
 use Rattle.demands.proofs.Held.{Carried, carried_same, carried_on, Changed}
 use Rattle.base.proofs.Zeros.{length_zeros}
 use Rattle.sessions.proofs.Laws.{slot_law, empty_law}
@@ -22,10 +21,8 @@ use Rattle.sessions.specs.Store.{put_slot}
 use Rattle.base.specs.Lists.{zeros}
 use Rattle.sessions.specs.declared.session.Session.{Session}
 use Rattle.sessions.specs.declared.sessions.Expired.{Expired}
-use Rattle.sessions.specs.declared.sessions.Found.TheVariants.{Nothing, Got}
-use Rattle.sessions.specs.declared.sessions.Selected.TheVariants.{Unset, Index}
-use Rattle.sessions.specs.declared.sessions.Selected.{Selected}
 use Rattle.sessions.specs.declared.sessions.Sessions.{Sessions}
+use Rattle.std.specs.Prelude.{None, Option, Some}
 
 -- the same slots, whatever the current session and the index allocated last
 carried_slots : (s last : Sessions) (store : List ℕ) → last.slots ≡ s.slots → last.inserted ≡ s.inserted → Carried s last store store
@@ -52,14 +49,14 @@ module _ (s : Sessions) (store : List ℕ) (index : ℕ) where
   unfolding set_current
   carried_current =
       of_choice (λ (t : Sessions). Carried s t store store) _ _ _ (carried_same s store)
-      (of_found (λ (t : Sessions). Carried s t store store) _ _ _ (carried_same s store)
-      (λ fresh. of_found (λ (t : Sessions). Carried s t store store) _ _ _ selected
+      (of_option (λ (t : Sessions). Carried s t store store) _ _ _ (carried_same s store)
+      (λ fresh. of_option (λ (t : Sessions). Carried s t store store) _ _ _ selected
       (λ current. of_choice (λ (t : Sessions). Carried s t store store) _ _ _ (carried_same s store) selected)))
 
 -- slots emptied, and the current session as it was or none
 pub record Thinned (s last : Sessions) (store left : List ℕ) : Type 0 where
   pub carried : Carried s last store left
-  pub current : (x : Session) → current_of last ≡ Got x → current_of s ≡ Got x
+  pub current : (x : Session) → current_of last ≡ Some x → current_of s ≡ Some x
 
 thinned_same : (s : Sessions) (store : List ℕ) → Thinned s s store store
 thinned_same s store = record { carried = carried_same s store; current = λ x e. e }
@@ -71,28 +68,28 @@ thinned_on s t u store mid left a b =
 -- a current session that is still there was current before
 module _ (s last : Sessions) (store left : List ℕ) (c : Carried s last store left) where
   same_found : (i : ℕ) (f : Bool) (x : Session) → (slot_at last (slot_of i)).filled ≡ f
-      → case_found (choose f (Got (slot_at last (slot_of i))) Nothing) Nothing (λ (y : Session). choose (eqb y.receiving_index i) (Got y) Nothing) ≡ Got x
-      → get s i ≡ Got x
-  unfolding get in_slot_of choose case_found
+      → case_option (choose f (Some (slot_at last (slot_of i))) None) None (λ (y : Session). choose (eqb y.receiving_index i) (Some y) None) ≡ Some x
+      → get s i ≡ Some x
+  unfolding get in_slot_of choose case_option
   same_found i true x p e =
       let q : slot_at last (slot_of i) ≡ slot_at s (slot_of i) = (c.slots (slot_of i) (omega arith) p).0 in
       let f : (slot_at s (slot_of i)).filled ≡ true = ap (λ (y : Session). y.filled) (sym q) ∙ p in
       rw f (rw q at e)
-  same_found i false x p e = let z : ◌≡◌ {A = ℕ} 0 1 = cc in absurd (omega arith)
+  same_found i false x p e = cc
 
-  still_current : (now was : Selected) (x : Session) → now ≡ was → case_selected now Nothing (λ (i : ℕ). get last i) ≡ Got x
-      → case_selected was Nothing (λ (i : ℕ). get s i) ≡ Got x
-  unfolding case_selected get in_slot_of
-  still_current Unset was x q e = let z : ◌≡◌ {A = ℕ} 0 1 = cc in absurd (omega arith)
-  still_current (Index i) was x q e = rw (← q) (same_found i _ x refl e)
+  still_current : (now was : Option ℕ) (x : Session) → now ≡ was → case_option now None (λ (i : ℕ). get last i) ≡ Some x
+      → case_option was None (λ (i : ℕ). get s i) ≡ Some x
+  unfolding case_option get in_slot_of
+  still_current None was x q e = cc
+  still_current (Some i) was x q e = rw (← q) (same_found i _ x refl e)
 
   kept_current : last.current ≡ s.current → Thinned s last store left
   unfolding current_of
   kept_current q = record { carried = c; current = λ x e. still_current last.current s.current x q e }
 
-  no_current : last.current ≡ Unset → Thinned s last store left
-  unfolding current_of case_selected
-  no_current q = record { carried = c; current = λ x e. let z : ◌≡◌ {A = ℕ} 0 1 = cc in absurd (omega arith) }
+  no_current : last.current ≡ None → Thinned s last store left
+  unfolding current_of case_option
+  no_current q = record { carried = c; current = λ x e. cc }
 
 -- a slot emptied and its words zeroed
 module _ (s last : Sessions) (store : List ℕ) (k : ℕ) (eight : length s.slots ≡ 8) (size : length store ≡ 1024) (low : k < 8) where

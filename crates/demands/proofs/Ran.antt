@@ -5,9 +5,8 @@ use mathlib.Core.Bool.{Bool, true, false}
 use mathlib.Core.List.{List, [], ◌∷◌}
 use Prim.Native.Nat.{ℕ}
 use lib.Dec.{ltb}
-use Rattle.base.specs.Choice.{choose}
-use Rattle.sessions.specs.Cases.{of_missing}
-use Rattle.base.proofs.Choice.{of_choice}
+use Rattle.base.specs.Choice.{choose, case_result}
+use Rattle.base.proofs.Choice.{of_result}
 use Rattle.tunnel.specs.Control.{refuse, poll_event, missing_report}
 use Rattle.tunnel.specs.declared.control.Out.{Out}
 use Rattle.demands.proofs.Created.{good_made}
@@ -32,7 +31,7 @@ ran_of t store = record { control = t.control; store = store; clock = t.greatest
 module _ (t : Tunnel) (store : List ℕ) (u : undamaged t ≡ true) where
   took_is : (bad : Bool) (now : ℕ) (out : Out) (left : List ℕ)
       → took (ran_of t store) bad now out left ≡ ran_of (timed t bad now out).tunnel (kept t bad now store left)
-  unfolding took timed kept gate let_through refused choose
+  unfolding took timed kept gate let_through refused case_result choose
   took_is bad now out left = go (ltb time_limit now) bad (ltb now t.greatest) refl refl
     where
       go : (late is back : Bool) → ltb time_limit now ≡ late → ltb now t.greatest ≡ back
@@ -44,7 +43,7 @@ module _ (t : Tunnel) (store : List ℕ) (u : undamaged t ≡ true) where
 
   kept_same : (bad : Bool) (now : ℕ) → kept t bad now store store ≡ store
   unfolding kept
-  kept_same bad now = of_choice (λ (s : List ℕ). s ≡ store) _ _ _ refl refl
+  kept_same bad now = of_result (λ (s : List ℕ). s ≡ store) _ _ _ (λ e. refl) (λ good. refl)
 
   took_plain : (bad : Bool) (now : ℕ) (out : Out) → took (ran_of t store) bad now out store ≡ ran_of (timed t bad now out).tunnel store
   took_plain bad now out = took_is bad now out store ∙ ap (ran_of (timed t bad now out).tunnel) (kept_same bad now)
@@ -56,7 +55,7 @@ module _ (t : Tunnel) (store : List ℕ) (u : undamaged t ≡ true) where
 
   missing_stays : (index : ℕ) → Stays (missing_report t.control store index)
   unfolding missing_report refuse
-  missing_stays index = of_missing Stays _ _ _ (λ n. record { control = refl; raises = refl }) (λ n. record { control = refl; raises = refl })
+  missing_stays index = of_result Stays _ _ _ (λ n. record { control = refl; raises = refl }) (λ n. record { control = refl; raises = refl })
 
   stays_let_through : (out : Out) → Stays out → ran_of t store ≡ ran_of (let_through t 0 out).tunnel store
   unfolding let_through choose
@@ -64,10 +63,10 @@ module _ (t : Tunnel) (store : List ℕ) (u : undamaged t ≡ true) where
 
   stays_timeless : (bad : Bool) (out : Out) → Stays out → ran_of t store ≡ ran_of (timeless t bad out).tunnel store
   unfolding timeless refused
-  stays_timeless bad out h = of_choice (λ (a : Answered). ran_of t store ≡ ran_of a.tunnel store) _ _ _ (stays_let_through out h) refl
+  stays_timeless bad out h = of_result (λ (a : Answered). ran_of t store ≡ ran_of a.tunnel store) _ _ _ (λ e. refl) (λ good. stays_let_through out h)
 
   event_is : ran (ran_of t store) event ≡ ran_of (call_event t).tunnel store
-  unfolding ran call_event timeless timeless_gate let_through poll_event choose
+  unfolding ran call_event timeless timeless_gate let_through poll_event case_result choose
   event_is = rw u refl
 
 -- the Rust after a call

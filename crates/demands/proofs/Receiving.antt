@@ -6,8 +6,8 @@ use mathlib.Core.List.{List}
 use Prim.Native.Nat.{ℕ, ◌<◌}
 use native.Mathlib.Omega.{arith}
 use lib.ListN.{length, get_or, take}
-use borrow.Author.Tests.{eq-eqb, eqb-true, eqb-false}
-use Rattle.base.specs.Choice.{choose}
+use borrow.Author.Tests.{eq-eqb, eqb-true}
+use Rattle.base.specs.Choice.{choose, case_option, case_results, case_result}
 use Rattle.tunnel.specs.Control.{refuse, done, expired_control}
 use Rattle.tunnel.specs.Decapsulate.{commit_decapsulate}
 use Rattle.tunnel.specs.declared.answer.Answer.TheVariants.{Done}
@@ -28,12 +28,9 @@ use Rattle.sessions.proofs.Laws.{fits_law, lookup_law}
 use Rattle.sessions.specs.Laws.{IsBatch, InSlot}
 use Rattle.sessions.specs.Batch.{fits, receiving_session, receive, Batched}
 use Rattle.demands.specs.History.{recorded_all, verdicts_on, skips_on, BatchLaw, BatchCall}
-use Rattle.sessions.specs.Cases.{case_received, case_found}
 use Rattle.sessions.specs.Index.{slot_of}
 use Rattle.sessions.specs.Sessions.{slot_at}
 use Rattle.sessions.specs.declared.session.Session.{Session}
-use Rattle.sessions.specs.declared.sessions.Found.TheVariants.{Nothing, Got}
-use Rattle.sessions.specs.declared.sessions.Found.{Found}
 use Rattle.sessions.specs.declared.sessions.Sessions.{Sessions}
 use Rattle.base.proofs.Choice.{no_fault}
 use Rattle.tunnel.proofs.Laws.{gate_law}
@@ -41,6 +38,9 @@ use Rattle.tunnel.specs.Arguments.{lacking, bad_batch}
 use Rattle.tunnel.specs.Tunnel.{gate, refused, let_through, timed, kept, timed_batch, call_receive}
 use Rattle.tunnel.specs.Answer.{number_of}
 use Rattle.tunnel.specs.Damage.{undamaged}
+use Rattle.std.specs.Prelude.{None, Option, Some, Result, Ok, Err}
+use Rattle.error.specs.declared.Error.{Error}
+use Rattle.error.proofs.Laws.{positive_law}
 
 -- lists that make a batch are let through by number 2, and only those
 module _ (store counters kinds verdicts skips : List ℕ) where
@@ -79,7 +79,7 @@ module _ (w : World) (u : undamaged w.tunnel ≡ true) (ins : List Insertion) (h
   fit : fits b.counters b.kinds b.verdicts b.skips ≡ true
   fit = (fits_law b.counters b.kinds b.verdicts b.skips).fitting lists
 
-  passes : gate w.tunnel (bad_batch w.store b.counters b.kinds b.verdicts b.skips) b.now ≡ 0
+  passes : gate w.tunnel (bad_batch w.store b.counters b.kinds b.verdicts b.skips) b.now ≡ Ok tt
   passes = gate_open w.tunnel _ b.now u (batch_good w.store b.counters b.kinds b.verdicts b.skips live.whole lists) live.timely live.onward
 
   alive : expired_control w.tunnel.control ≡ false
@@ -93,7 +93,7 @@ module _ (w : World) (u : undamaged w.tunnel ≡ true) (ins : List Insertion) (h
         named = live.index;
       }
 
-  its : receiving_session s b.index b.id b.now ≡ Got (slot_at s slot)
+  its : receiving_session s b.index b.id b.now ≡ Some (slot_at s slot)
   its = rw (← live.id) ((lookup_law s).receives b.index b.now (slot_at s slot) in_slot (omega (arith, live.age)))
 
   abbrev call : BatchCall
@@ -117,8 +117,8 @@ module _ (w : World) (u : undamaged w.tunnel ≡ true) (ins : List Insertion) (h
   abbrev out : Batched Out
   out = commit_decapsulate w.tunnel.control w.store b.index b.id b.now b.counters b.kinds b.verdicts b.skips
 
-  answer_is : out.out.answer ≡ Done
-  unfolding commit_decapsulate case_received done choose
+  answer_is : out.out.answer ≡ Ok Done
+  unfolding commit_decapsulate case_results done choose
   answer_is = rw (alive, law.received)
 
   list_is : out.verdicts ≡ verdicts_on (h b.id).history b.counters b.kinds
@@ -130,15 +130,15 @@ module _ (w : World) (u : undamaged w.tunnel ≡ true) (ins : List Insertion) (h
   skip_list_is = rw alive law.skips
 
   good : number_of (step w (receiving b)).answer ≡ 0
-  unfolding step call_receive timed_batch timed let_through choose number_of
+  unfolding step call_receive timed_batch timed let_through case_result number_of
   good = rw (passes, answer_is) refl
 
   verdicts_are : (step w (receiving b)).verdicts ≡ verdicts_on (h b.id).history b.counters b.kinds
-  unfolding step call_receive timed_batch kept choose
+  unfolding step call_receive timed_batch kept case_result
   verdicts_are = rw passes list_is
 
   skips_are : (step w (receiving b)).skips ≡ skips_on (h b.id).history b.counters b.kinds
-  unfolding step call_receive timed_batch kept choose
+  unfolding step call_receive timed_batch kept case_result
   skips_are = rw passes skip_list_is
 
   long : length (step w (receiving b)).verdicts ≡ length b.counters
@@ -168,26 +168,26 @@ module _ (w : World) (u : undamaged w.tunnel ≡ true) (b : Batch) where
   abbrev bad : Bool
   bad = bad_batch w.store b.counters b.kinds b.verdicts b.skips
 
-  abbrev came : Found
+  abbrev came : Option Session
   came = receiving_session w.tunnel.control.sessions b.index b.id b.now
 
   -- what it takes to be answered good
   record Passes : Type 0 where
-    opened : gate w.tunnel bad b.now ≡ 0
+    opened : gate w.tunnel bad b.now ≡ Ok tt
     alive : expired_control w.tunnel.control ≡ false
     session : Session
-    found : came ≡ Got session
+    found : came ≡ Some session
 
-  good_passes : (opens ended whole fit : Bool) (found : Found) → eqb (gate w.tunnel bad b.now) 0 ≡ opens
+  good_passes : (opens : Result Unit Error) (ended whole fit : Bool) (found : Option Session) → gate w.tunnel bad b.now ≡ opens
       → expired_control w.tunnel.control ≡ ended → eqb (length w.store) 1024 ≡ whole → fits b.counters b.kinds b.verdicts b.skips ≡ fit → came ≡ found
       → number_of (step w (receiving b)).answer ≡ 0 → Passes
-  unfolding step call_receive timed_batch timed let_through refused commit_decapsulate refuse receive case_received case_found number_of choose
-  good_passes false ended whole fit found p q r f e z = absurd (eqb-false _ 0 p (rw p at z))
-  good_passes true true whole fit found p q r f e z = absurd (omega (arith, rw (p, q) at z))
-  good_passes true false false fit found p q r f e z = absurd (omega (arith, rw (p, q, r) at z))
-  good_passes true false true false found p q r f e z = absurd (omega (arith, rw (p, q, r, f) at z))
-  good_passes true false true true Nothing p q r f e z = absurd (omega (arith, rw (p, q, r, f, e) at z))
-  good_passes true false true true (Got x) p q r f e z = record { opened = eqb-true _ 0 p; alive = q; session = x; found = e }
+  unfolding step call_receive timed_batch timed let_through refused commit_decapsulate refuse receive case_result case_results case_option number_of choose
+  good_passes (Err error) ended whole fit found p q r f e z = absurd (omega (arith, positive_law error, rw p at z))
+  good_passes (Ok good) true whole fit found p q r f e z = absurd (omega (arith, rw (p, q) at z))
+  good_passes (Ok good) false false fit found p q r f e z = absurd (omega (arith, rw (p, q, r) at z))
+  good_passes (Ok good) false true false found p q r f e z = absurd (omega (arith, rw (p, q, r, f) at z))
+  good_passes (Ok good) false true true None p q r f e z = absurd (omega (arith, rw (p, q, r, f, e) at z))
+  good_passes (Ok good) false true true (Some x) p q r f e z = record { opened = p; alive = q; session = x; found = e }
 
   only : number_of (step w (receiving b)).answer ≡ 0 → (slot : ℕ) × Live w b slot
   only z =

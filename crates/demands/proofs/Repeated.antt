@@ -14,9 +14,7 @@ use Rattle.demands.specs.Calls.Call.{timeout}
 use Rattle.demands.specs.Calls.{Call, World, Reply, stored, step}
 use Rattle.demands.specs.Made.{case_answer, Insertion}
 use Rattle.demands.specs.Sending.{Grant, granting, current_in, put_by, keepalive_by, waking_grant, waking_grants, PolledKeepalive}
-use Rattle.sessions.specs.Cases.{case_found}
 use Rattle.sessions.specs.declared.session.Session.{Session}
-use Rattle.sessions.specs.declared.sessions.Found.TheVariants.{Got}
 use Rattle.tunnel.specs.Cases.{case_event}
 use Rattle.tunnel.specs.Control.{Turn, done}
 use Rattle.tunnel.specs.HandleTimeout.{handle_timeout}
@@ -24,9 +22,12 @@ use Rattle.tunnel.specs.RingBuffer.{push_back}
 use Rattle.tunnel.specs.Settled.Repeats.{rests, wakes}
 use Rattle.tunnel.specs.Settled.{Repeats}
 use Rattle.tunnel.specs.Tunnel.{Called, refused, let_through, call_timeout}
-use Rattle.tunnel.specs.declared.event.Event.TheVariants.{Empty, SendKeepalive}
+use Rattle.tunnel.specs.declared.event.Event.TheVariants.{SendKeepalive}
 use Rattle.tunnel.specs.declared.event.Event.{Event}
 use Rattle.tunnel.specs.declared.tunnel.Tunnel.{Tunnel}
+use Rattle.base.specs.Choice.{case_option}
+use Rattle.std.specs.Prelude.{Some, None, Option}
+use Rattle.error.specs.declared.Error.{Error}
 
 module _ (ins : List Insertion) (h : ℕ → Past) (g k : List Grant) (polls : List PolledKeepalive) (w : World)
     (y : Known ins h g k polls w.tunnel.control w.store) (jitter now : ℕ) where
@@ -54,29 +55,29 @@ module _ (ins : List Insertion) (h : ℕ → Past) (g k : List Grant) (polls : L
       of_choice (λ (t : Turn). OneWaking (let_through_lem t)) _ _ _ (record { waked = same_waked; plain = plain_of _ refl })
       (record { waked = woken w.tunnel.control w.store jitter now from_here; plain = plain_of _ refl })
 
-  turned_down : (number : ℕ) → OneWaking (stored (record { answered = refused w.tunnel number; store = w.store }))
+  turned_down : (e : Error) → OneWaking (stored (record { answered = refused w.tunnel e; store = w.store }))
   unfolding refused case_answer
-  turned_down number = record { waked = same_waked; plain = plain_of _ refl }
+  turned_down e = record { waked = same_waked; plain = plain_of _ refl }
 
   pub woke_step : OneWaking (step w waking)
   unfolding step call_timeout
-  woke_step = of_turn (λ (c : Called). OneWaking (stored c)) w.tunnel _ now w.store _ (λ z. woke_through) (λ number d. turned_down number)
+  woke_step = of_turn (λ (c : Called). OneWaking (stored c)) w.tunnel _ now w.store _ (λ z. woke_through) turned_down
 
   -- the event that it puts last into the ring, and its grant
-  pub pushed : (e : Event) → (step w waking).world.tunnel.control.events ≡ push_back w.tunnel.control.events e → put_by w waking ≡ e
+  pub pushed : (e : Event) → (step w waking).world.tunnel.control.events ≡ push_back w.tunnel.control.events e → put_by w waking ≡ Some e
   pushed e p = rw p (put_pushed w.tunnel.control.events e y.queue.ring)
 
-  empty_none : keepalive_by (current_in w) Empty ≡ []
-  unfolding keepalive_by case_event
+  empty_none : keepalive_by (current_in w) None ≡ []
+  unfolding keepalive_by case_option
   empty_none = refl
 
-  ungranted : (e : Event) → put_by w waking ≡ e → keepalive_by (current_in w) e ≡ [] → waking_grant w jitter now ≡ []
+  ungranted : (e : Option Event) → put_by w waking ≡ e → keepalive_by (current_in w) e ≡ [] → waking_grant w jitter now ≡ []
   unfolding waking_grant
   ungranted e p q = rw p q
 
-  granted : (x : Session) (peer first : ℕ) → put_by w waking ≡ SendKeepalive peer first → current_in w ≡ Got x
+  granted : (x : Session) (peer first : ℕ) → put_by w waking ≡ Some (SendKeepalive peer first) → current_in w ≡ Some x
       → waking_grant w jitter now ≡ granting x.id peer first 1 ∷ []
-  unfolding waking_grant keepalive_by case_event case_found
+  unfolding waking_grant keepalive_by case_event case_option
   granted x peer first p q = rw (p, q)
 
   -- what is known after it
@@ -89,9 +90,9 @@ module _ (ins : List Insertion) (h : ℕ → Past) (g k : List Grant) (polls : L
 
   of_waked : Waked w.tunnel.control w.store (step w waking).world.tunnel.control (step w waking).world.store → After (waking_grant w jitter now)
   of_waked (silent v e) =
-      none_more (ungranted Empty (put_none _ _ e) empty_none) (record { held = v ins h g y.held; queue = rw e y.queue })
+      none_more (ungranted None (put_none _ _ e) empty_none) (record { held = v ins h g y.held; queue = rw e y.queue })
   of_waked (queues ev u v e) =
-      none_more (ungranted ev (pushed ev e) (u.grants _))
+      none_more (ungranted (Some ev) (pushed ev e) (u.grants _))
       (record { held = v ins h g y.held; queue = rw e (queue_push k polls _ y.queue ev u.granted) })
   of_waked (grants x peer first q r v e) =
       rw (granted x peer first (pushed _ e) q)

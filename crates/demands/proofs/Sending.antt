@@ -29,7 +29,6 @@ use Rattle.sessions.specs.Laws.{MaySend}
 use Rattle.sessions.specs.Range.{range}
 use Rattle.sessions.specs.Sessions.{current_of}
 use Rattle.sessions.specs.declared.session.Session.{Session}
-use Rattle.sessions.specs.declared.sessions.Found.TheVariants.{Nothing, Got}
 use Rattle.tunnel.specs.Answer.{number_of, values_of}
 use Rattle.tunnel.specs.Damage.{undamaged}
 use Rattle.tunnel.specs.Encapsulate as encapsulate
@@ -37,6 +36,8 @@ use Rattle.tunnel.specs.Numbers.{Alive}
 use Rattle.tunnel.specs.Tunnel.{call_send}
 use Rattle.tunnel.specs.declared.answer.Answer.TheVariants.{Granted}
 use Rattle.tunnel.specs.declared.answer.Answer.{Answer}
+use Rattle.std.specs.Prelude.{None, Some, Result, Ok}
+use Rattle.error.specs.declared.Error.{Error}
 
 -- counters that run are the first ones, below LIMIT
 module _ (l : List ℕ) (r : Runs l) where
@@ -60,7 +61,7 @@ module _ (w : World) (u : undamaged w.tunnel ≡ true) (count now : ℕ) (some :
       timed_open w.tunnel _ now _ (gate_open w.tunnel _ now u (ne_eqb count 0 (λ z. omega (arith, z, some))) timely onward)
 
 -- what a granted range says
-module _ (answer : Answer) (peer first count : ℕ) (e : answer ≡ Granted (range peer first count)) where
+module _ (answer : Result Answer Error) (peer first count : ℕ) (e : answer ≡ Ok (Granted (range peer first count))) where
   granted_number : number_of answer ≡ 0
   unfolding number_of
   granted_number = rw e refl
@@ -72,8 +73,8 @@ module _ (answer : Answer) (peer first count : ℕ) (e : answer ≡ Granted (ran
 same_values : (a b c d n : ℕ) → a ≡ b → c ≡ d → b ∷ d ∷ n ∷ [] ≡ a ∷ c ∷ n ∷ []
 same_values a b c d n p q = cc
 
-got_nothing : (x : Session) → Got x ≡ Nothing → ⊥
-got_nothing x e = let z : ◌≡◌ {A = ℕ} 0 1 = cc in omega arith
+got_nothing : (x : Session) → Some x ≡ None → ⊥
+got_nothing x e = cc
 
 module _ (c : Creation) (good : Good c) (calls : List Call) (few : insertions (made_by c calls) < 2 ^ 64) where
   abbrev here : World
@@ -84,13 +85,13 @@ module _ (c : Creation) (good : Good c) (calls : List Call) (few : insertions (m
   known = known_run c good calls few
 
   -- the session that is current by the Rust's calls is the tunnel's
-  current_here : (x : Session) → current_of (ran_after (ran_new c) calls).control.sessions ≡ Got x → current_in here ≡ Got x
+  current_here : (x : Session) → current_of (ran_after (ran_new c) calls).control.sessions ≡ Some x → current_in here ≡ Some x
   current_here x e = ap (λ (r : Ran). current_of r.control.sessions) (sym (ran_created c good calls)) ∙ e
 
-  current_ran : (x : Session) → current_in here ≡ Got x → current_of (ran_after (ran_new c) calls).control.sessions ≡ Got x
+  current_ran : (x : Session) → current_in here ≡ Some x → current_of (ran_after (ran_new c) calls).control.sessions ≡ Some x
   current_ran x e = ap (λ (r : Ran). current_of r.control.sessions) (ran_created c good calls) ∙ e
 
-  module _ (x : Session) (current : current_in here ≡ Got x) where
+  module _ (x : Session) (current : current_in here ≡ Some x) where
     message_is : message_of x.id (made_by c calls) ≡ message_in x
     message_is = current_message _ _ _ here.tunnel.control.sessions here.store known.held x current
 
@@ -108,10 +109,10 @@ module _ (c : Creation) (good : Good c) (calls : List Call) (few : insertions (m
     can_meets can = record { prompt = can.prompt; young = can.young; left = can.left }
 
     can_granted : (can : CanSend c calls count now)
-        → send_after c calls count now ≡ Granted (range can.current.0.sending_index can.current.0.sending_key_counter count)
+        → send_after c calls count now ≡ Ok (Granted (range can.current.0.sending_index can.current.0.sending_key_counter count))
     can_granted can =
         let x : Session = can.current.0 in
-        let e : current_in here ≡ Got x = current_here x can.current.1 in
+        let e : current_in here ≡ Some x = current_here x can.current.1 in
         let n : granted_to x.id (made_by c calls) ≡ x.sending_key_counter = counter_is x e in
         let may : MaySend x now = meets_may x _ _ count now (message_is x e) n can.some (can_meets can) in
         send_open here (grown c good calls) count now can.some can.timely can.onward
@@ -123,7 +124,7 @@ module _ (c : Creation) (good : Good c) (calls : List Call) (few : insertions (m
         ≡ (message_of can.current.0.id (made_by c calls)).peer ∷ granted_to can.current.0.id (made_by c calls) ∷ count ∷ [])
     met can =
         let x : Session = can.current.0 in
-        let e : current_in here ≡ Got x = current_here x can.current.1 in (
+        let e : current_in here ≡ Some x = current_here x can.current.1 in (
           granted_number _ _ _ _ (can_granted can),
           granted_values _ _ _ _ (can_granted can) ∙ same_values _ _ _ _ count (ap (λ (m : Insertion). m.peer) (message_is x e)) (counter_is x e),
         )
@@ -136,7 +137,7 @@ module _ (c : Creation) (good : Good c) (calls : List Call) (few : insertions (m
 
     -- one that no session can meet
     module _ (some : 1 ≤ count) (timely : now ≤ 4000000000000000000) (onward : here.tunnel.greatest ≤ now) where
-      can_send_lem : (x : Session) → current_in here ≡ Got x → MaySend x now → x.sending_key_counter + count ≤ 2 ^ 64 - 8193 → CanSend c calls count now
+      can_send_lem : (x : Session) → current_in here ≡ Some x → MaySend x now → x.sending_key_counter + count ≤ 2 ^ 64 - 8193 → CanSend c calls count now
       can_send_lem x e may below =
           let m : Meets (message_of x.id (made_by c calls)) (granted_to x.id (made_by c calls)) count now =
           may_meets x _ _ count now (message_is x e) (counter_is x e) may below in

@@ -1,11 +1,12 @@
 -- The persistent keepalive's setting stays over every call.
 -- Assumes nothing.
 use mathlib.Core.Path.{◌≡◌, ◌∙◌}
+use Prim.Native.Nat.{ℕ}
 use Rattle.demands.specs.Calls.Call.{start, restart, send, receive, look, initiation, response, cookie, timeout, settle, event, deadline, missing}
 use Rattle.demands.specs.Calls.{Call, World, step}
 use Rattle.tunnel.proofs.Laws.{setting_law}
 use Rattle.tunnel.specs.Laws.{setting_of}
-use Rattle.tunnel.specs.declared.timers.Interval.{Interval}
+use Rattle.std.specs.Prelude.{Option}
 
 setting_same : (w : World) (call : Call) → setting_of (step w call).world.tunnel ≡ setting_of w.tunnel
 unfolding step
@@ -23,5 +24,5 @@ setting_same w event = (setting_law w.tunnel w.store).event
 setting_same w deadline = (setting_law w.tunnel w.store).deadline
 setting_same w (missing index) = (setting_law w.tunnel w.store).missing index
 
-pub setting_stays : (interval : Interval) (w : World) (call : Call) → setting_of w.tunnel ≡ interval → setting_of (step w call).world.tunnel ≡ interval
+pub setting_stays : (interval : Option ℕ) (w : World) (call : Call) → setting_of w.tunnel ≡ interval → setting_of (step w call).world.tunnel ≡ interval
 setting_stays interval w call e = setting_same w call ∙ e

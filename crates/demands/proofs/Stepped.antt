@@ -7,12 +7,11 @@ use Prim.Native.Nat.{ℕ, ◌+◌, ◌^◌, ◌<◌}
 use native.Mathlib.Omega.{arith}
 use lib.Dec.{eqb}
 use lib.ListN.{length}
-use borrow.Author.Tests.{eqb-false}
-use Rattle.base.proofs.Choice.{yes_eq, no_eq, same_choice, of_choice}
-use Rattle.base.specs.Choice.{choose}
+use Rattle.base.proofs.Choice.{yes_eq, no_eq, same_choice, of_choice, of_result}
+use Rattle.base.specs.Choice.{choose, case_option, case_result}
 use Rattle.tunnel.specs.Answer.{number_of}
 use Rattle.tunnel.specs.Control.{Turn, refuse, poll_event}
-use Rattle.tunnel.specs.declared.answer.Answer.TheVariants.{No, Done, Woke}
+use Rattle.tunnel.specs.declared.answer.Answer.TheVariants.{Done, Woke}
 use Rattle.tunnel.specs.declared.answer.Answer.{Answer}
 use Rattle.tunnel.specs.declared.control.Control.{Control}
 use Rattle.tunnel.specs.declared.control.Out.{Out}
@@ -24,7 +23,7 @@ use Rattle.demands.proofs.Inserting.Inserts.{nothing, responds, completes}
 use Rattle.demands.proofs.Inserting.{Inserts, inserts_initiation, inserts_response}
 use Rattle.demands.proofs.Judging.Judged.{turned, taken}
 use Rattle.demands.proofs.Judging.{Judged, judged_batch}
-use Rattle.demands.proofs.Known.{Known, Plain, plain_of, known_as, known_same, Idle, idle_refused, idle_start, idle_restart, idle_look, idle_cookie, known_event, ungranted_event, idle_deadline, idle_missing}
+use Rattle.demands.proofs.Known.{Known, turned_number, Plain, plain_of, known_as, known_same, Idle, idle_refused, idle_start, idle_restart, idle_look, idle_cookie, known_event, ungranted_event, idle_deadline, idle_missing}
 use Rattle.demands.proofs.Repeated.{woke_step, known_waking, known_repeated}
 use Rattle.demands.specs.Calls.Call.{start, restart, send, receive, look, initiation, response, cookie, timeout, settle, event, deadline, missing}
 use Rattle.demands.specs.Calls.{Call, World, Reply, stored, batched, step}
@@ -33,25 +32,24 @@ use Rattle.demands.specs.LastHeard.{hearing}
 use Rattle.demands.specs.Receiving.{committing}
 use Rattle.demands.specs.Sending.{Grant, granting, waking_grants, woken_grant, answered_grant, PolledKeepalive, polled_by}
 use Rattle.demands.specs.History.{recorded_all}
-use Rattle.sessions.specs.Cases.{case_found}
 use Rattle.sessions.specs.Laws.{commits}
 use Rattle.sessions.specs.Batch.{Batched}
-use Rattle.sessions.specs.declared.session.Time.TheVariants.{At}
-use Rattle.sessions.specs.declared.session.Time.{Time}
 use Rattle.tunnel.proofs.Laws.{gate_law, response_law, settle_law}
-use Rattle.tunnel.specs.Arguments.{initiation_outcome, opening_outcome}
+use Rattle.tunnel.specs.Arguments.{initiation_outcome, opening_outcome, named_of}
 use Rattle.tunnel.specs.Sound.{Sound}
 use Rattle.tunnel.specs.Tunnel.{Called, gate, refused, let_through, timed, timeless, kept, timed_turn, timed_batch, call_start, call_restart, call_send, call_receive, call_look, call_initiation, call_response, call_cookie, call_settle, call_event, call_deadline, call_missing}
 use Rattle.tunnel.specs.declared.tunnel.Answered.{Answered}
 use Rattle.tunnel.specs.Settle as settling
 use Rattle.tunnel.specs.Settled.{Repeats, Settles}
 use Rattle.tunnel.specs.declared.tunnel.Tunnel.{Tunnel}
+use Rattle.std.specs.Prelude.{Err, Ok, Option, Result, Some}
+use Rattle.error.specs.declared.Error.{Error}
 
 -- a session's past with a call
 abbrev passing : ℕ → Past → Call → Reply → Past
 passing id past call reply = record { history = committing id past.history call reply; heard = hearing id past.heard call reply }
 
-past_is : (past : Past) (history : List ℕ) (heard : Time) → history ≡ past.history → heard ≡ past.heard
+past_is : (past : Past) (history : List ℕ) (heard : Option ℕ) → history ≡ past.history → heard ≡ past.heard
     → ◌≡◌ {A = Past} (record { history = history; heard = heard }) past
 past_is past history heard e f = rw (e, f) refl
 
@@ -72,24 +70,24 @@ record Quiet (ins : List Insertion) (h : ℕ → Past) (g k : List Grant) (polls
 
 module _ (ins : List Insertion) (h : ℕ → Past) (g k : List Grant) (polls : List PolledKeepalive) (w : World)
     (y : Known ins h g k polls w.tunnel.control w.store) where
-  turned_down : (number : ℕ) → Quiet ins h g k polls w.store (refused w.tunnel number)
+  turned_down : (e : Error) → Quiet ins h g k polls w.store (refused w.tunnel e)
   unfolding refused refuse
-  turned_down number = record { known = y; plain = (idle_refused w.tunnel.control w.store number).plain }
+  turned_down e = record { known = y; plain = (idle_refused w.tunnel.control w.store e).plain }
 
   quiet_timed : (bad : Bool) (now : ℕ) (out : Out) → Idle w.tunnel.control w.store out w.store
       → Quiet ins h g k polls w.store (timed w.tunnel bad now out)
   unfolding timed let_through
   quiet_timed bad now out i =
-      of_choice (λ (a : Answered). Quiet ins h g k polls w.store a) _ _ _ (record { known = i.known ins h g k polls y; plain = i.plain }) (turned_down _)
+      of_result (λ (a : Answered). Quiet ins h g k polls w.store a) _ _ _ turned_down (λ good. record { known = i.known ins h g k polls y; plain = i.plain })
 
   quiet_timeless : (bad : Bool) (out : Out) → Idle w.tunnel.control w.store out w.store
       → Quiet ins h g k polls w.store (timeless w.tunnel bad out)
   unfolding timeless let_through
   quiet_timeless bad out i =
-      of_choice (λ (a : Answered). Quiet ins h g k polls w.store a) _ _ _ (record { known = i.known ins h g k polls y; plain = i.plain }) (turned_down _)
+      of_result (λ (a : Answered). Quiet ins h g k polls w.store a) _ _ _ turned_down (λ good. record { known = i.known ins h g k polls y; plain = i.plain })
 
   -- what is known after a call that is no batch and no waking
-  abbrev Then : List Insertion → Answer → Control → List ℕ → Type 0
+  abbrev Then : List Insertion → Result Answer Error → Control → List ℕ → Type 0
   Then m answer c store =
       Known (ins ++ m) h (g ++ (answered_grant (length ins) w answer ++ [])) (k ++ []) (polls ++ polled_by answer) c store
 
@@ -134,12 +132,12 @@ module _ (ins : List Insertion) (h : ℕ → Past) (g k : List Grant) (polls : L
   next_event : Next ins h g k polls w event (step w event)
   unfolding step call_event timeless let_through committing hearing case_batch woken_grant case_waking insertion_by case_message
   next_event =
-      of_choice (λ (a : Answered). Then (choose (eqb (number_of a.answer) 0) [] []) a.answer a.tunnel.control w.store) _ _ _
-      (of_event _ (same_choice _ [])) (next_quiet _ _ (same_choice _ []) (turned_down _))
+      of_result (λ (a : Answered). Then (choose (eqb (number_of a.answer) 0) [] []) a.answer a.tunnel.control w.store) _ _ _
+      (λ e. next_quiet _ _ (same_choice _ []) (turned_down e)) (λ good. of_event _ (same_choice _ []))
 
   -- a send
   of_send : (m : List Insertion) (out : Out) → m ≡ [] → Sends w.tunnel.control w.store out → Then m out.answer out.control w.store
-  unfolding answered_grant polled_by case_answer case_found
+  unfolding answered_grant polled_by case_answer case_option
   of_send m out p (none i) =
       known_same ins m h g _ k [] polls _ out.control w.store p (i.plain.granted (length ins) w) refl i.plain.polled (i.known ins h g k polls y)
   of_send m out p (some x peer first len v e) =
@@ -149,8 +147,8 @@ module _ (ins : List Insertion) (h : ℕ → Past) (g k : List Grant) (polls : L
   next_send : (count now : ℕ) → Next ins h g k polls w (send count now) (step w (send count now))
   unfolding step call_send timed let_through committing hearing case_batch woken_grant case_waking insertion_by case_message
   next_send count now =
-      of_choice (λ (a : Answered). Then (choose (eqb (number_of a.answer) 0) [] []) a.answer a.tunnel.control w.store) _ _ _
-      (of_send _ _ (same_choice _ []) (sends_some w.tunnel.control w.store count now)) (next_quiet _ _ (same_choice _ []) (turned_down _))
+      of_result (λ (a : Answered). Then (choose (eqb (number_of a.answer) 0) [] []) a.answer a.tunnel.control w.store) _ _ _
+      (λ e. next_quiet _ _ (same_choice _ []) (turned_down e)) (λ good. of_send _ _ (same_choice _ []) (sends_some w.tunnel.control w.store count now))
 
   -- a batch
   pointwise : (i : ℕ → Past) (c : Control) (store : List ℕ) → ((id : ℕ) → i id ≡ h id) → Known ins h g k polls c store
@@ -177,19 +175,19 @@ module _ (ins : List Insertion) (h : ℕ → Past) (g k : List Grant) (polls : L
     batch = receive index id now counters kinds verdicts skips
 
     -- turned down
-    next_turned : (reply : Reply) (number : ℕ) → reply.answer ≡ No number → (number ≡ 0 → ⊥)
+    next_turned : (reply : Reply) (error : Error) → reply.answer ≡ Err error
         → Known ins h g k polls reply.world.tunnel.control reply.world.store → Next ins h g k polls w batch reply
     unfolding committing hearing case_batch woken_grant case_waking number_of insertion_by case_message answered_grant polled_by case_answer
-    next_turned reply number e d v =
+    next_turned reply error e v =
         known_as ins _ _ g _ k _ polls _ _ _ (none_more _) (rw e (append-nil g)) (append-nil k)
         (rw e (append-nil polls))
         (pointwise _ _ _ (λ y. past_is (h y) _ _
-        (of_choice (λ (l : List ℕ). l ≡ (h y).history) _ _ _ (rw e (sym (no_eq number 0 (h y).history _ _ d refl))) refl)
-        (of_choice (λ (l : Time). l ≡ (h y).heard) _ _ _ (rw e (sym (no_eq number 0 (h y).heard _ _ d refl))) refl)) v)
+        (of_choice (λ (l : List ℕ). l ≡ (h y).history) _ _ _ (rw e (sym (no_eq _ 0 (h y).history _ _ (turned_number error) refl))) refl)
+        (of_choice (λ (l : Option ℕ). l ≡ (h y).heard) _ _ _ (rw e (sym (no_eq _ 0 (h y).heard _ _ (turned_number error) refl))) refl)) v)
 
     -- judged
-    next_taken : (reply : Reply) → reply.answer ≡ Done
-        → ((i : ℕ → Past) → i id ≡ record { history = recorded_all (h id).history counters reply.verdicts; heard = choose (commits reply.verdicts) (At now) (h id).heard }
+    next_taken : (reply : Reply) → reply.answer ≡ Ok Done
+        → ((i : ℕ → Past) → i id ≡ record { history = recorded_all (h id).history counters reply.verdicts; heard = choose (commits reply.verdicts) (Some now) (h id).heard }
         → ((z : ℕ) → (z ≡ id → ⊥) → i z ≡ h z)
         → Known ins i g k polls reply.world.tunnel.control reply.world.store)
         → Next ins h g k polls w batch reply
@@ -210,28 +208,28 @@ module _ (ins : List Insertion) (h : ℕ → Past) (g k : List Grant) (polls : L
           skips = b.skips;
         })
     unfolding let_through
-    of_batch b (turned number e d i) = next_turned _ number e d (i.known ins h g k polls y)
+    of_batch b (turned error e i) = next_turned _ error e (i.known ins h g k polls y)
     of_batch b (taken e v) = next_taken _ e (λ i mine others. v ins h i g k polls y mine others)
 
-    -- what a batch hands back, by the number of its checks
-    framed : (number : ℕ) (b : Batched Out) → Batched Answered
-    framed number b =
+    -- what a batch hands back, by what its checks say
+    framed : (checked : Result Unit Error) (b : Batched Out) → Batched Answered
+    framed checked b =
         record {
-          out = choose (eqb number 0) (let_through w.tunnel now b.out) (refused w.tunnel number);
-          store = choose (eqb number 0) b.store w.store;
-          verdicts = choose (eqb number 0) b.verdicts verdicts;
-          skips = choose (eqb number 0) b.skips skips;
+          out = case_result checked (refused w.tunnel) (λ good. let_through w.tunnel now b.out);
+          store = case_result checked (λ error. w.store) (λ good. b.store);
+          verdicts = case_result checked (λ error. verdicts) (λ good. b.verdicts);
+          skips = case_result checked (λ error. skips) (λ good. b.skips);
         }
 
-    of_framed : (f : Bool) (number : ℕ) (b : Batched Out) → eqb number 0 ≡ f → Judged w.tunnel.control w.store id now counters b
-        → Next ins h g k polls w batch (batched (framed number b))
-    unfolding framed choose refused
-    of_framed true number b e j = rw e (of_batch b j)
-    of_framed false number b e j = rw e (next_turned _ number refl (eqb-false number 0 e) y)
+    of_framed : (checked : Result Unit Error) (b : Batched Out) → Judged w.tunnel.control w.store id now counters b
+        → Next ins h g k polls w batch (batched (framed checked b))
+    unfolding framed case_result refused
+    of_framed (Ok good) b j = of_batch b j
+    of_framed (Err error) b j = next_turned _ error refl y
 
     next_receive : Next ins h g k polls w batch (step w batch)
     unfolding step call_receive timed_batch timed kept framed
-    next_receive = of_framed _ (gate w.tunnel _ now) _ refl (judged_batch w.tunnel.control w.store index id now counters kinds verdicts skips)
+    next_receive = of_framed (gate w.tunnel _ now) _ (judged_batch w.tunnel.control w.store index id now counters kinds verdicts skips)
 
   -- grants added to what is known, by a call whose answer stands for none
   next_woken : (m : List Insertion) (more : List Grant) (reply : Reply) → m ≡ [] → Plain reply.answer
@@ -254,21 +252,21 @@ module _ (ins : List Insertion) (h : ℕ → Past) (g k : List Grant) (polls : L
     Settled c = Next ins h g k polls w (settle jitter now) (stored c)
 
     of_settles : (c : Called) (wakings : ℕ) (last : Tunnel) (left : List ℕ) → Repeats jitter now w.tunnel w.store wakings last left
-        → c.answered.answer ≡ Woke wakings → c.answered.tunnel.control ≡ last.control → c.store ≡ left → Settled c
+        → c.answered.answer ≡ Ok (Woke wakings) → c.answered.tunnel.control ≡ last.control → c.store ≡ left → Settled c
     unfolding committing hearing case_batch woken_grant case_waking wakings_of insertion_by case_message case_answer
     of_settles c wakings last left r a t e =
-        next_woken _ _ (stored c) (same_choice _ []) (rw a (plain_of (Woke wakings) refl))
+        next_woken _ _ (stored c) (same_choice _ []) (rw a (plain_of (Ok (Woke wakings)) refl))
         (rw (a, t, e) (known_repeated r ins h g k polls y))
 
-    settle_refused : (number : ℕ) → Settled (record { answered = refused w.tunnel number; store = w.store })
+    settle_refused : (e : Error) → Settled (record { answered = refused w.tunnel e; store = w.store })
     unfolding committing hearing case_batch woken_grant case_waking wakings_of waking_grants insertion_by case_message refused
-    settle_refused number = next_quiet _ _ (same_choice _ []) (turned_down number)
+    settle_refused e = next_quiet _ _ (same_choice _ []) (turned_down e)
 
     next_settle : Sound w.tunnel → Next ins h g k polls w (settle jitter now) (step w (settle jitter now))
     unfolding step call_settle let_through settling.settle number_of
     next_settle s =
         of_turn (λ (c : Called). (number_of c.answered.answer ≡ 0 → Settled c) → Settled c) w.tunnel _ now w.store _
-        (λ z settled. settled refl) (λ number d settled. settle_refused number)
+        (λ z settled. settled refl) (λ e settled. settle_refused e)
         (λ z.
         let e : Settles w.tunnel w.store jitter now = (settle_law w.tunnel w.store jitter now s.eight s.sixteen).ends z in
         of_settles _ e.wakings e.last e.left e.repeats e.comes.answer (ap (λ (t : Tunnel). t.control) e.comes.tunnel) e.comes.words)
@@ -276,17 +274,17 @@ module _ (ins : List Insertion) (h : ℕ → Past) (g k : List Grant) (polls : L
   -- an incoming initiation and a response
   module _ (now : ℕ) where
     -- the insertion of a message, by its answer
-    abbrev inserted_by : Insertion → Answer → List Insertion
+    abbrev inserted_by : Insertion → Result Answer Error → List Insertion
     inserted_by message answer = choose (eqb (number_of answer) 0) (message ∷ []) []
 
     module _ (message : Insertion) where
-      one_inserted : (answer : Answer) → number_of answer ≡ 0 → inserted_by message answer ≡ message ∷ []
+      one_inserted : (answer : Result Answer Error) → number_of answer ≡ 0 → inserted_by message answer ≡ message ∷ []
       one_inserted answer e = sym (yes_eq _ 0 _ _ _ e refl)
 
-      none_inserted : (answer : Answer) → (number_of answer ≡ 0 → ⊥) → inserted_by message answer ≡ []
+      none_inserted : (answer : Result Answer Error) → (number_of answer ≡ 0 → ⊥) → inserted_by message answer ≡ []
       none_inserted answer d = sym (no_eq _ 0 _ _ _ d refl)
 
-      few_inserted : (answer : Answer) → number_of answer ≡ 0 → length ins + length (inserted_by message answer) < 2 ^ 64 → length ins + 1 < 2 ^ 64
+      few_inserted : (answer : Result Answer Error) → number_of answer ≡ 0 → length ins + length (inserted_by message answer) < 2 ^ 64 → length ins + 1 < 2 ^ 64
       few_inserted answer e few = let one : length (inserted_by message answer) ≡ 1 = ap length (one_inserted answer e) in omega (arith, one, few)
 
       of_inserts : (t : Turn) → length ins + length (inserted_by message t.out.answer) < 2 ^ 64 → Inserts w.tunnel.control w.store message t
@@ -308,12 +306,12 @@ module _ (ins : List Insertion) (h : ℕ → Past) (g k : List Grant) (polls : L
           length ins + length (inserted_by message c.answered.answer) < 2 ^ 64
           → Then (inserted_by message c.answered.answer) c.answered.answer c.answered.tunnel.control c.store
 
-      of_inserted : (bad : Bool) (t : Turn) → (gate w.tunnel bad now ≡ 0 → Inserts w.tunnel.control w.store message t)
+      of_inserted : (bad : Bool) (t : Turn) → (gate w.tunnel bad now ≡ Ok tt → Inserts w.tunnel.control w.store message t)
           → InsertedBy (timed_turn w.tunnel bad now w.store t)
       unfolding let_through refused number_of
       of_inserted bad t i =
           of_turn InsertedBy w.tunnel bad now w.store t (λ z few. of_inserts t few (i z))
-          (λ number d few. next_quiet _ _ (none_inserted (No number) d) (turned_down number))
+          (λ e few. next_quiet _ _ (none_inserted (Err e) (turned_number e)) (turned_down e))
 
     next_initiation : (peer outcome : ℕ)
         → length ins + length (insertion_by (initiation peer outcome now) (step w (initiation peer outcome now)).answer) < 2 ^ 64
@@ -321,7 +319,7 @@ module _ (ins : List Insertion) (h : ℕ → Past) (g k : List Grant) (polls : L
     unfolding step call_initiation committing hearing case_batch woken_grant case_waking insertion_by case_message
     next_initiation peer outcome few =
         of_inserted (insertion false peer now) _ _
-        (λ z. inserts_initiation w.tunnel.control w.store peer (initiation_outcome outcome) now) few
+        (λ z. inserts_initiation w.tunnel.control w.store peer (named_of (initiation_outcome outcome)) now) few
 
     next_response : Sound w.tunnel → (receiver peer outcome : ℕ)
         → length ins + length (insertion_by (response receiver peer outcome now) (step w (response receiver peer outcome now)).answer) < 2 ^ 64
@@ -329,7 +327,7 @@ module _ (ins : List Insertion) (h : ℕ → Past) (g k : List Grant) (polls : L
     unfolding step call_response committing hearing case_batch woken_grant case_waking insertion_by case_message
     next_response s receiver peer outcome few =
         of_inserted (insertion true peer now) _ _
-        (λ z. inserts_response w.tunnel.control w.store receiver peer (opening_outcome outcome) now
+        (λ z. inserts_response w.tunnel.control w.store receiver peer (named_of (opening_outcome outcome)) now
         (λ handshake. response_law w.tunnel s handshake w.store receiver peer now ((gate_law w.tunnel _ now).onward z) y.held.size))
         few
 

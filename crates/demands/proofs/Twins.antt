@@ -7,7 +7,7 @@ use Prim.Native.Nat.{ℕ, ◌≤◌, ◌<◌}
 use native.Mathlib.Omega.{arith}
 use lib.Dec.{ltb}
 use borrow.Author.Tests.{ltb-true, ltb-false, lt-ltb, le-ltb}
-use Rattle.base.specs.Choice.{choose}
+use Rattle.base.specs.Choice.{choose, case_option, case_result}
 use Rattle.tunnel.specs.Control.{Turn, expired_control, poll_event, missing_report}
 use Rattle.tunnel.specs.PollTimeout.{next_deadline, not_before, poll_timeout}
 use Rattle.tunnel.specs.InitiateHandshake.{start_handshake, restart_handshake}
@@ -24,18 +24,17 @@ use Rattle.demands.specs.Wakings.Alike.{equal, come}
 use Rattle.sessions.specs.Sessions.{slot_at}
 use Rattle.demands.specs.Wakings.{HeardAlike, time_of, NotEarlier, Alike, Same}
 use Rattle.tunnel.specs.RingBuffer.{ring_is_empty}
-use Rattle.sessions.specs.Cases.{case_time}
 use Rattle.sessions.specs.Batch.{Batched}
-use Rattle.sessions.specs.declared.session.Time.TheVariants.{Never, At}
-use Rattle.sessions.specs.declared.session.Time.{Time}
 use Rattle.tunnel.proofs.Laws.{deadline_law, undamaged_law}
-use Rattle.tunnel.specs.Arguments.{opening_outcome, initiation_outcome, lacking, bad_outcome, bad_jitter, bad_batch}
+use Rattle.tunnel.specs.Arguments.{opening_outcome, initiation_outcome, named_of, lacking, bad_outcome, bad_jitter, bad_batch}
 use Rattle.tunnel.specs.Damage.{undamaged}
 use Rattle.tunnel.specs.Tunnel.{gate, timeless_gate, refused, let_through, timed, timeless, kept, timed_turn, timed_batch, call_start, call_restart, call_send, call_receive, call_look, call_initiation, call_response, call_cookie, call_timeout, call_settle, call_event, call_deadline, call_missing}
 use Rattle.tunnel.specs.declared.tunnel.Answered.{Answered}
 use Rattle.tunnel.specs.declared.tunnel.Tunnel.{Tunnel}
 use Rattle.tunnel.specs.HandleTimeout.{handle_timeout}
 use Rattle.tunnel.specs.Settle as settling
+use Rattle.std.specs.Prelude.{None, Option, Some, Result, Ok, Err}
+use Rattle.error.specs.declared.Error.{Error}
 
 -- the plain and the woken tunnel have the same control; the woken one's greatest time is at most this later than the plain one's
 pub record TwinTunnels (latest : ℕ) (p w : Tunnel) : Type 0 where
@@ -71,12 +70,12 @@ same_back a b latest now older bound h = go (ltb now a) refl
     go false e = e ∙ sym (le-ltb now b (bound now h (ltb-false now a e)))
 
 module _ {latest : ℕ} where
-  -- a choice by the same test
-  of_same_test : (t : Bool) (a x b y : Answered) → AnsweredAlike latest a b → AnsweredAlike latest x y
-      → AnsweredAlike latest (choose t a x) (choose t b y)
-  unfolding choose
-  of_same_test true a x b y h k = h
-  of_same_test false a x b y h k = k
+  -- a choice by the same checks
+  of_same_checks : (checked : Result Unit Error) (a b : Error → Answered) (x y : Answered) → ((e : Error) → AnsweredAlike latest (a e) (b e))
+      → AnsweredAlike latest x y → AnsweredAlike latest (case_result checked a (λ good. x)) (case_result checked b (λ good. y))
+  unfolding case_result
+  of_same_checks (Err e) a b x y h k = h e
+  of_same_checks (Ok good) a b x y h k = k
 
   module _ {p w : Tunnel} (h : TwinTunnels latest p w) where
     -- what the checks let through
@@ -98,9 +97,9 @@ module _ {latest : ℕ} where
           tunnels = record { control = refl; older = raised out.raises now; bound = bounded out.raises now };
         }
 
-    refused_alike : (number : ℕ) → AnsweredAlike latest (refused p number) (refused w number)
+    refused_alike : (e : Error) → AnsweredAlike latest (refused p e) (refused w e)
     unfolding refused
-    refused_alike number = record { answer = refl; tunnels = h }
+    refused_alike e = record { answer = refl; tunnels = h }
 
     module _ (u : undamaged p ≡ true) (v : undamaged w ≡ true) where
       -- a call at a time
@@ -112,7 +111,7 @@ module _ {latest : ℕ} where
         timed_alike : (is : Bool) (out shall : Out) → bad ≡ is → out ≡ shall → AnsweredAlike latest (timed p bad now out) (timed w is now shall)
         unfolding timed
         timed_alike is out shall b e =
-            rw (← b, ← e, same_gate) (of_same_test _ _ _ _ _ (let_through_alike now out) (refused_alike (gate w bad now)))
+            rw (← b, ← e, same_gate) (of_same_checks (gate w bad now) _ _ _ _ refused_alike (let_through_alike now out))
 
         kept_alike : (is : Bool) (came left had shall : List ℕ) → bad ≡ is → came ≡ had → left ≡ shall → kept p bad now came left ≡ kept w is now had shall
         unfolding kept
@@ -122,40 +121,40 @@ module _ {latest : ℕ} where
       timeless_alike : (bad is : Bool) (out shall : Out) → bad ≡ is → out ≡ shall → AnsweredAlike latest (timeless p bad out) (timeless w is shall)
       unfolding timeless timeless_gate
       timeless_alike bad is out shall b e =
-          rw (← b, ← e, u, v) (of_same_test _ _ _ _ _ (let_through_alike 0 out) (refused_alike _))
+          rw (← b, ← e, u, v) (of_same_checks _ _ _ _ _ refused_alike (let_through_alike 0 out))
 
 -- equal answers are alike
-equal_alike : (latest : ℕ) (a b : Answer) → a ≡ b → Alike latest a b
+equal_alike : (latest : ℕ) (a b : Result Answer Error) → a ≡ b → Alike latest a b
 equal_alike latest a b e = rw e (equal b)
 
 -- two deadlines of one control
 later_of : (x y : Bool) (at p w latest : ℕ) → ltb at p ≡ x → ltb at w ≡ y → p ≤ latest → w ≤ latest
-    → Alike latest (Deadline (At (choose x p at))) (Deadline (At (choose y w at)))
+    → Alike latest (Ok (Deadline (Some (choose x p at)))) (Ok (Deadline (Some (choose y w at))))
 unfolding choose
 later_of true true at p w latest e f a b = come p w a b
 later_of true false at p w latest e f a b = come p at a (let z : at < p = ltb-true at p e in omega arith)
 later_of false true at p w latest e f a b = come at w (let z : at < w = ltb-true at w f in omega arith) b
-later_of false false at p w latest e f a b = equal (Deadline (At at))
+later_of false false at p w latest e f a b = equal (Ok (Deadline (Some at)))
 
-by_deadline : (next : Time) (p w latest : ℕ) → p ≤ latest → w ≤ latest → Alike latest (Deadline (not_before next p)) (Deadline (not_before next w))
-unfolding not_before case_time
-by_deadline Never p w latest a b = equal (Deadline Never)
-by_deadline (At at) p w latest a b = later_of (ltb at p) (ltb at w) at p w latest refl refl a b
+by_deadline : (next : Option ℕ) (p w latest : ℕ) → p ≤ latest → w ≤ latest → Alike latest (Ok (Deadline (not_before next p))) (Ok (Deadline (not_before next w)))
+unfolding not_before case_option
+by_deadline None p w latest a b = equal (Ok (Deadline None))
+by_deadline (Some at) p w latest a b = later_of (ltb at p) (ltb at w) at p w latest refl refl a b
 
-by_queue : (ended quiet : Bool) (next : Time) (p w latest : ℕ) → p ≤ latest → w ≤ latest
-    → Alike latest (Deadline (choose ended Never (choose quiet (not_before next p) (At p)))) (Deadline (choose ended Never (choose quiet (not_before next w) (At w))))
+by_queue : (ended quiet : Bool) (next : Option ℕ) (p w latest : ℕ) → p ≤ latest → w ≤ latest
+    → Alike latest (Ok (Deadline (choose ended None (choose quiet (not_before next p) (Some p))))) (Ok (Deadline (choose ended None (choose quiet (not_before next w) (Some w)))))
 unfolding choose
-by_queue true quiet next p w latest a b = equal (Deadline Never)
+by_queue true quiet next p w latest a b = equal (Ok (Deadline None))
 by_queue false true next p w latest a b = by_deadline next p w latest a b
 by_queue false false next p w latest a b = come p w a b
 
-deadlines_alike : (c : Control) (p w latest : ℕ) → p ≤ latest → w ≤ latest → Alike latest (Deadline (poll_timeout c p)) (Deadline (poll_timeout c w))
+deadlines_alike : (c : Control) (p w latest : ℕ) → p ≤ latest → w ≤ latest → Alike latest (Ok (Deadline (poll_timeout c p))) (Ok (Deadline (poll_timeout c w)))
 unfolding poll_timeout
 deadlines_alike c p w latest a b = by_queue (expired_control c) (ring_is_empty c.events) (next_deadline c) p w latest a b
 
 -- the deadline leaves the tunnel as it was
 pub deadline_still : (t : Tunnel) → undamaged t ≡ true → (call_deadline t).tunnel ≡ t
-unfolding call_deadline timeless timeless_gate let_through choose
+unfolding call_deadline timeless timeless_gate let_through case_result choose
 deadline_still t u = rw u refl
 
 module _ {latest : ℕ} {p w : World} (h : Twins latest p w) (u : undamaged p.tunnel ≡ true) (v : undamaged w.tunnel ≡ true) where
@@ -227,12 +226,12 @@ module _ {latest : ℕ} {p w : World} (h : Twins latest p w) (u : undamaged p.tu
       (ap₂ (λ (c : Control) (s : List ℕ). decapsulate.begin_decapsulate c s index counter now) h.tunnels.control h.store)
   calls_alike (initiation peer outcome now) l =
       turn_pair _ _ now _ _ (l now refl) (ap (bad_outcome (initiation_outcome outcome)) h.store)
-      (ap₂ (λ (c : Control) (s : List ℕ). handle_handshake_initiation c s peer (initiation_outcome outcome) now) h.tunnels.control h.store)
+      (ap₂ (λ (c : Control) (s : List ℕ). handle_handshake_initiation c s peer (named_of (initiation_outcome outcome)) now) h.tunnels.control h.store)
   calls_alike (response receiver peer outcome now) l =
       turn_pair _ _ now _ _ (l now refl) (ap (bad_outcome (opening_outcome outcome)) h.store)
-      (ap₂ (λ (c : Control) (s : List ℕ). handle_handshake_response c s receiver peer (opening_outcome outcome) now) h.tunnels.control h.store)
+      (ap₂ (λ (c : Control) (s : List ℕ). handle_handshake_response c s receiver peer (named_of (opening_outcome outcome)) now) h.tunnels.control h.store)
   calls_alike (cookie receiver outcome now) l =
-      timed_pair _ _ now _ _ (l now refl) refl (ap (λ (c : Control). handle_cookie_reply c receiver (opening_outcome outcome) now) h.tunnels.control)
+      timed_pair _ _ now _ _ (l now refl) refl (ap (λ (c : Control). handle_cookie_reply c receiver (named_of (opening_outcome outcome)) now) h.tunnels.control)
   calls_alike (timeout jitter now) l =
       turn_pair _ _ now _ _ (l now refl) (ap (bad_jitter jitter) h.store)
       (ap₂ (λ (c : Control) (s : List ℕ). handle_timeout c s jitter now) h.tunnels.control h.store)

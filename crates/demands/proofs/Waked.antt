@@ -5,11 +5,10 @@ use mathlib.Core.Bool.{Bool, false}
 use mathlib.Core.List.{List, [], ◌∷◌, ◌++◌}
 use Prim.Native.Nat.{ℕ}
 use lib.ListN.{length}
-use Rattle.base.proofs.Choice.{of_choice}
-use Rattle.sessions.specs.Cases.{of_found, case_time}
+use Rattle.base.proofs.Choice.{of_choice, of_option}
 use Rattle.tunnel.specs.Control.{with_sessions, queueing}
 use Rattle.tunnel.specs.InitiateHandshake.{initiate, initiating}
-use Rattle.tunnel.specs.Cases.{case_datagram, case_event}
+use Rattle.tunnel.specs.Cases.{case_event}
 use Rattle.tunnel.specs.Encapsulate.{encrypt_keepalive}
 use Rattle.tunnel.specs.declared.control.Control.{Control}
 use Rattle.tunnel.specs.declared.encapsulate.Encrypted.{Encrypted}
@@ -27,20 +26,19 @@ use Rattle.tunnel.specs.declared.event.Event.{Event}
 use Rattle.tunnel.specs.declared.ring_buffer.RingBuffer.{RingBuffer}
 use Rattle.sessions.specs.Sessions.{current_of, expire, clear}
 use Rattle.sessions.specs.declared.session.Session.{Session}
-use Rattle.sessions.specs.declared.session.Time.TheVariants.{Never, At}
-use Rattle.sessions.specs.declared.session.Time.{Time}
-use Rattle.sessions.specs.declared.sessions.Found.TheVariants.{Got}
-use Rattle.sessions.specs.declared.sessions.Found.{Found}
 use Rattle.sessions.specs.declared.sessions.Sessions.{Sessions}
 use Rattle.tunnel.specs.HandleTimeout.{Inner, inner, clear_all, expire_control, scheduling, queue_keepalive, send_keepalive, keepalive_if_due, rekey_or_keepalive, give_up_or_retry, maintain_connection, expire_sessions, send_scheduled, handle_due}
+use Rattle.base.specs.Choice.{case_option, case_pair}
+use Rattle.std.specs.Prelude.{None, Option, Some}
+use Rattle.error.specs.declared.Error.TheVariants.{ConnectionExpired}
 
 -- an event that is no grant
 pub record Ungranted (event : Event) : Type 0 where
-  pub granted : keepalive_in event ≡ []
-  pub grants : (found : Found) → keepalive_by found event ≡ []
+  pub granted : keepalive_in (Some event) ≡ []
+  pub grants : (found : Option Session) → keepalive_by found (Some event) ≡ []
 
 initiation_none : (local : ℕ) → Ungranted (SendHandshakeInitiation local)
-unfolding keepalive_by polled_by case_answer case_event
+unfolding keepalive_by polled_by case_answer case_option case_event
 initiation_none local = record { granted = refl; grants = λ found. refl }
 
 module _ (c : Control) (store : List ℕ) where
@@ -51,7 +49,7 @@ module _ (c : Control) (store : List ℕ) where
     queues : (event : Event) → Ungranted event
         → ((ins : List Insertion) (h : ℕ → Past) (g : List Grant) → Held ins h g c.sessions store → Held ins h g d.sessions left)
         → d.events ≡ push_back c.events event → Waked d left
-    grants : (x : Session) (peer first : ℕ) → current_of c.sessions ≡ Got x → x.sending_index ≡ peer
+    grants : (x : Session) (peer first : ℕ) → current_of c.sessions ≡ Some x → x.sending_index ≡ peer
         → ((ins : List Insertion) (h : ℕ → Past) (g k : List Grant) (polls : List PolledKeepalive) → Known ins h g k polls c store
         → Held ins h (g ++ granting x.id peer first 1 ∷ []) d.sessions left)
         → d.events ≡ push_back c.events (SendKeepalive peer first) → Waked d left
@@ -60,7 +58,7 @@ module _ (c : Control) (store : List ℕ) where
   pub record From (s : Sessions) (r : RingBuffer) (left : List ℕ) : Type 0 where
     pub held : (ins : List Insertion) (h : ℕ → Past) (g : List Grant) → Held ins h g c.sessions store → Held ins h g s left
     pub ring : r ≡ c.events
-    pub current : (x : Session) → current_of s ≡ Got x → current_of c.sessions ≡ Got x
+    pub current : (x : Session) → current_of s ≡ Some x → current_of c.sessions ≡ Some x
     pub eight : length s.slots ≡ 8
     pub size : length left ≡ 1024
 
@@ -77,7 +75,7 @@ module _ (c : Control) (store : List ℕ) where
   -- the connection ended
   ended : (d : Control) (left : List ℕ) (now : ℕ) → From d.sessions d.events left
       → Waked (expire_control d left now).control (expire_control d left now).store
-  unfolding expire_control clear_all queueing keepalive_by polled_by case_answer case_event
+  unfolding expire_control clear_all queueing keepalive_by polled_by case_answer case_option case_event
   ended d left now f =
       let t : From (clear d.sessions left).sessions d.events (clear d.sessions left).store =
       from_thinned d.sessions _ d.events left _ f (thinned_clear d.sessions left now f.eight f.size) in
@@ -88,8 +86,8 @@ module _ (c : Control) (store : List ℕ) where
   -- a keepalive queued, if there is a session for it
   module _ (d : Control) (left : List ℕ) (now : ℕ) (f : From d.sessions d.events left) where
     of_keepalive : (e : Encrypted) → Encrypts d left e
-        → Waked (case_datagram e.keepalive e.control (λ peer counter. queueing e.control (SendKeepalive peer counter))) left
-    unfolding case_datagram queueing
+        → Waked (case_pair e.keepalive e.control (λ peer counter. queueing e.control (SendKeepalive peer counter))) left
+    unfolding case_pair queueing
     of_keepalive e (skips p q) = rw (q, p) (silent f.held f.ring)
     of_keepalive e (sends x peer first g q r) =
         rw q
@@ -125,13 +123,13 @@ module _ (c : Control) (store : List ℕ) where
           (of_choice (λ (y : Inner). Waked y.control y.store) _ _ _ (scheduled d f)
           (of_choice (λ (y : Inner). Waked y.control y.store) _ _ _ (scheduled d f) (silent f.held f.ring)))
 
-      of_retry : (retry : Time) (d : Control) → From d.sessions d.events left
+      of_retry : (retry : Option ℕ) (d : Control) → From d.sessions d.events left
           → Waked
-          (case_time retry (inner (rekey_or_keepalive d required jitter now) left) (λ at. give_up_or_retry d left required jitter now)).control
-          (case_time retry (inner (rekey_or_keepalive d required jitter now) left) (λ at. give_up_or_retry d left required jitter now)).store
-      unfolding case_time
-      of_retry Never d f = idle d f
-      of_retry (At at) d f = progress d f
+          (case_option retry (inner (rekey_or_keepalive d required jitter now) left) (λ at. give_up_or_retry d left required jitter now)).control
+          (case_option retry (inner (rekey_or_keepalive d required jitter now) left) (λ at. give_up_or_retry d left required jitter now)).store
+      unfolding case_option
+      of_retry None d f = idle d f
+      of_retry (Some at) d f = progress d f
 
       maintained : (d : Control) → From d.sessions d.events left
           → Waked (maintain_connection d left required jitter now).control (maintain_connection d left required jitter now).store
@@ -146,7 +144,7 @@ module _ (c : Control) (store : List ℕ) where
         let left : List ℕ = (expire c.sessions store now).store in
         let g : From d.sessions d.events left =
         from_thinned c.sessions _ c.events store _ f (thinned_expire c.sessions store now f.eight f.size) in
-        of_found (λ (y : Inner). Waked y.control y.store) _ _ _ (maintained left now jitter false d g)
+        of_option (λ (y : Inner). Waked y.control y.store) _ _ _ (maintained left now jitter false d g)
         (λ session. of_choice (λ (y : Inner). Waked y.control y.store) _ _ _ (ended d left now g) (maintained left now jitter _ d g))
 
     -- the scheduled handshake sent
@@ -156,11 +154,11 @@ module _ (c : Control) (store : List ℕ) where
         queues _ (initiation_none _)
         (λ ins h g w. held_carried ins h g c.sessions _ store store w (carried_next c.sessions store)) refl
 
-    of_scheduled : (at : Time) → Waked (case_time at (expire_sessions c store jitter now) (λ at. inner c store)).control
-        (case_time at (expire_sessions c store jitter now) (λ at. inner c store)).store
-    unfolding case_time
-    of_scheduled Never = expired
-    of_scheduled (At at) = silent f.held f.ring
+    of_scheduled : (at : Option ℕ) → Waked (case_option at (expire_sessions c store jitter now) (λ at. inner c store)).control
+        (case_option at (expire_sessions c store jitter now) (λ at. inner c store)).store
+    unfolding case_option
+    of_scheduled None = expired
+    of_scheduled (Some at) = silent f.held f.ring
 
     pub woken : Waked (handle_due c store jitter now).control (handle_due c store jitter now).store
     unfolding handle_due

@@ -6,10 +6,9 @@ use mathlib.Core.List.{List, [], ◌∷◌, ◌++◌}
 use mathlib.Core.Logic.{◌⊎◌, inl, inr, ⊎_elim}
 use Prim.Native.Nat.{ℕ, ◌≤◌, ◌<◌}
 use native.Mathlib.Omega.{arith}
-use lib.Dec.{ltb, leb, eqb}
-use borrow.Author.Tests.{lt-leb, eqb-true}
-use Rattle.base.specs.Choice.{choose}
-use Rattle.sessions.specs.Cases.{case_time}
+use lib.Dec.{ltb, leb}
+use borrow.Author.Tests.{lt-leb}
+use Rattle.base.specs.Choice.{choose, case_option, case_result}
 use Rattle.tunnel.specs.Control.{Turn, new_control, done, expired_control}
 use Rattle.tunnel.specs.PollTimeout.{next_deadline, not_before, poll_timeout}
 use Rattle.tunnel.specs.declared.answer.Answer.TheVariants.{Deadline}
@@ -25,11 +24,8 @@ use Rattle.demands.specs.Calls.{Call, World, step, after, Creation, created, Exp
 use Rattle.demands.specs.Wakings.{Step, shared, extra, plain_calls, woken_calls, Ran, ran, ran_after, Current, BeforeDeadline, NotEarlier, ComesEarly, CurrentOrUnset, InOrder, Admissible, Same, CreatedAlike, ExtraWakingsLaw}
 use Rattle.tunnel.specs.RingBuffer.{ring_is_empty}
 use Rattle.tunnel.specs.Timers.{new_timers}
-use Rattle.tunnel.specs.declared.timers.Interval.TheVariants.{Off}
 use Rattle.sessions.specs.Session.{due_by}
 use Rattle.base.specs.Lists.{zeros}
-use Rattle.sessions.specs.declared.session.Time.TheVariants.{Never, At}
-use Rattle.sessions.specs.declared.session.Time.{Time}
 use Rattle.tunnel.proofs.Laws.{deadline_law, quiet_law}
 use Rattle.tunnel.proofs.Laws.{undamaged_law, gate_law}
 use Rattle.tunnel.specs.Arguments.{interval_of, bad_jitter}
@@ -38,26 +34,29 @@ use Rattle.tunnel.specs.Sound.{Sound}
 use Rattle.tunnel.specs.Tunnel.{new_tunnel, gate, refused, let_through, timed, kept, timed_turn, call_timeout}
 use Rattle.tunnel.specs.Quiet.{Early}
 use Rattle.tunnel.specs.HandleTimeout.{Inner, handle_timeout}
+use Rattle.std.specs.Prelude.{None, Option, Some, Result, Ok, Err}
+use Rattle.error.specs.declared.Error.{Error}
+use Rattle.tunnel.specs.declared.answer.Answer.{Answer}
 
 -- a time before the reported deadline and not before the last update is before the next deadline
-before_next : (t : Bool) (at last due now : ℕ) → ltb at last ≡ t → At (choose t last at) ≡ At due → now < due → last ≤ now → leb at now ≡ false
+before_next : (t : Bool) (at last due now : ℕ) → ltb at last ≡ t → Some (choose t last at) ≡ Some due → now < due → last ≤ now → leb at now ≡ false
 unfolding choose
 before_next true at last due now e p b l = let q : last ≡ due = cc in absurd (omega arith)
 before_next false at last due now e p b l = let q : at ≡ due = cc in lt-leb at now (omega arith)
 
-before_due : (ended quiet : Bool) (next : Time) (last due now : ℕ) → choose ended Never (choose quiet (not_before next last) (At last)) ≡ At due
+before_due : (ended quiet : Bool) (next : Option ℕ) (last due now : ℕ) → choose ended None (choose quiet (not_before next last) (Some last)) ≡ Some due
     → now < due → last ≤ now → due_by next now ≡ false
-unfolding choose not_before due_by case_time
-before_due true quiet next last due now p b l = let z : ◌≡◌ {A = ℕ} 0 1 = cc in absurd (omega arith)
-before_due false true Never last due now p b l = refl
-before_due false true (At at) last due now p b l = before_next (ltb at last) at last due now refl p b l
+unfolding choose not_before due_by case_option
+before_due true quiet next last due now p b l = cc
+before_due false true None last due now p b l = refl
+before_due false true (Some at) last due now p b l = before_next (ltb at last) at last due now refl p b l
 before_due false false next last due now p b l = let q : last ≡ due = cc in absurd (omega arith)
 
 before_deadline : (w : World) (now : ℕ) → undamaged w.tunnel ≡ true → w.tunnel.greatest ≤ now → BeforeDeadline w now
     → due_by (next_deadline w.tunnel.control) now ≡ false
 unfolding step poll_timeout
 before_deadline w now u g b =
-    let a : Deadline (poll_timeout w.tunnel.control w.tunnel.last_update) ≡ Deadline (At b.0) =
+    let a : ◌≡◌ {A = Result Answer Error} (Ok (Deadline (poll_timeout w.tunnel.control w.tunnel.last_update))) (Ok (Deadline (Some b.0))) =
     sym ((deadline_law w.tunnel).answer u) ∙ b.1 in
     let l = (undamaged_law.facts w.tunnel u).updated in
     before_due (expired_control w.tunnel.control) (ring_is_empty w.tunnel.control.events) _ w.tunnel.last_update b.0 now (cc) b.2 (omega arith)
@@ -86,13 +85,13 @@ module _ {latest : ℕ} (p w : World) (h : Twins latest p w) (bad : Bool) (now :
       }
 
   left_twins : (w.tunnel.greatest ≤ now → Still w.tunnel.control w.store turn) → Twins latest p Left ⊎ Twins now p Left
-  unfolding timed_turn timed kept let_through refused choose
-  left_twins k = go (eqb (gate w.tunnel bad now) 0) refl
+  unfolding timed_turn timed kept let_through refused case_result choose
+  left_twins k = go (gate w.tunnel bad now) refl
     where
-      go : (t : Bool) → eqb (gate w.tunnel bad now) 0 ≡ t → Twins latest p Left ⊎ Twins now p Left
-      go false e = rw e (inl h)
-      go true e =
-          let g = (gate_law w.tunnel bad now).onward (eqb-true _ 0 e) in
+      go : (checked : Result Unit Error) → gate w.tunnel bad now ≡ checked → Twins latest p Left ⊎ Twins now p Left
+      go (Err error) e = rw e (inl h)
+      go (Ok good) e =
+          let g = (gate_law w.tunnel bad now).onward e in
           let s = k g in
           let o = h.tunnels.older in
           rw e (inr (record {
@@ -150,11 +149,11 @@ module _ (keepalive : ℕ) (r : Ran) (w : World) (steps : List Step) where
 
 -- an extra waking leaves twins
 module _ (keepalive : ℕ) {latest : ℕ} (p w : World) (steps : List Step) (h : Twins latest p w) (u : undamaged w.tunnel ≡ true)
-    (off : keepalive ≡ 0 → w.tunnel.control.timers.persistent_keepalive ≡ Off) (jitter now : ℕ)
+    (off : keepalive ≡ 0 → w.tunnel.control.timers.persistent_keepalive ≡ None) (jitter now : ℕ)
     (a : AdmissibleFrom keepalive (ran_of w.tunnel w.store) w (extra jitter now ∷ steps)) where
   its_early : w.tunnel.greatest ≤ now → expired_control w.tunnel.control ≡ false → Early w.tunnel.control now
   its_early g f =
-      let alive : Expired w → ⊥ = λ x. (let y = expired_control_lem w x in let z : ◌≡◌ {A = ℕ} 0 1 = cc in omega arith) in
+      let alive : Expired w → ⊥ = λ x. (let y = expired_control_lem w x in cc) in
       record {
         waits = ⊎_elim (λ b. before_deadline w now u g b) (λ x. absurd (alive x)) (first_early keepalive _ w steps jitter now a);
         held = ⊎_elim (λ s. inl s) (λ k. inr (off k)) (first_held_lem keepalive _ w steps jitter now a alive);
@@ -166,7 +165,7 @@ module _ (keepalive : ℕ) {latest : ℕ} (p w : World) (steps : List Step) (h :
       left_twins p w h (bad_jitter jitter w.store) now (handle_timeout w.tunnel.control w.store jitter now)
       (λ g. still_turn w.tunnel.control w.store jitter now (expired_control w.tunnel.control) refl (its_early g))
 
-made_off : (index keepalive now : ℕ) → keepalive ≡ 0 → (new_tunnel index keepalive now).control.timers.persistent_keepalive ≡ Off
+made_off : (index keepalive now : ℕ) → keepalive ≡ 0 → (new_tunnel index keepalive now).control.timers.persistent_keepalive ≡ None
 unfolding new_tunnel new_control new_timers interval_of choose
 made_off index keepalive now k = rw k refl
 
@@ -180,7 +179,7 @@ record Ready (keepalive latest : ℕ) (p w : World) (steps : List Step) : Type 0
   twins : Twins latest p w
   plainly : Sound p.tunnel
   wakingly : Sound w.tunnel
-  off : keepalive ≡ 0 → w.tunnel.control.timers.persistent_keepalive ≡ Off
+  off : keepalive ≡ 0 → w.tunnel.control.timers.persistent_keepalive ≡ None
   conditions : AdmissibleFrom keepalive (ran_of w.tunnel w.store) w steps
   ordered : Ordered latest steps
 
@@ -196,7 +195,7 @@ module _ {keepalive latest : ℕ} {p w : World} {steps : List Step} where
         twins = (pair call r).twins;
         plainly = sound_step p call r.plainly;
         wakingly = sound_step w call r.wakingly;
-        off = λ k. setting_stays Off w call (r.off k);
+        off = λ k. setting_stays None w call (r.off k);
         conditions =
             subst (λ (x : Ran). AdmissibleFrom keepalive x (step w call).world steps) (ran_step w call r.wakingly.holds)
             (from_shared keepalive _ w steps call r.conditions);
@@ -211,7 +210,7 @@ module _ {keepalive latest : ℕ} {p w : World} {steps : List Step} where
           twins = h;
           plainly = r.plainly;
           wakingly = sound_step w (timeout jitter now) r.wakingly;
-          off = λ k. setting_stays Off w (timeout jitter now) (r.off k);
+          off = λ k. setting_stays None w (timeout jitter now) (r.off k);
           conditions =
               subst (λ (x : Ran). AdmissibleFrom keepalive x (step w (timeout jitter now)).world steps)
               (ran_step w (timeout jitter now) r.wakingly.holds)

@@ -1,5 +1,6 @@
 -- Lists of calls on one tunnel: each call is handed the tunnel and the store just as the call before handed them back.
-use Rattle.std.specs.Prelude.{◌≡◌, List, [], ◌∷◌, ℕ}
+use Rattle.std.specs.Prelude.{◌≡◌, List, [], ◌∷◌, ℕ, Result}
+use Rattle.error.specs.declared.Error.{Error}
 use Rattle.sessions.specs.Batch.{Batched}
 use Rattle.tunnel.specs.Answer.{number_of}
 use Rattle.tunnel.specs.declared.answer.Answer.{Answer}
@@ -28,7 +29,7 @@ pub record World : Type 0 where
 -- what a call hands back: the tunnel and the store, the answer, and the verdict list and the skip list of a batch
 pub record Reply : Type 0 where
   pub world : World
-  pub answer : Answer
+  pub answer : Result Answer Error
   pub verdicts : List ℕ
   pub skips : List ℕ
 

@@ -1,7 +1,7 @@
 -- A list of calls of which demand 2's statements speak, so that what they ask can be met: a handshake, data sent, a batch with a counter twice,
 -- a jump that clears the window, a keepalive queued by a waking and polled; then a batch for the live session, a send that it can meet, and a
 -- keepalive granted by a settling and polled.
-use Rattle.std.specs.Prelude.{◌≡◌, true, List, [], ◌∷◌, ◌++◌, ◌^◌, ◌<◌, take}
+use Rattle.std.specs.Prelude.{◌≡◌, true, List, [], ◌∷◌, ◌++◌, ◌^◌, ◌<◌, take, None, Some, Ok}
 use Rattle.tunnel.specs.declared.answer.Answer.TheVariants.{Polled, Woke}
 use Rattle.demands.specs.Calls.Call.{start, send, receive, response, timeout, settle, event, missing}
 use Rattle.demands.specs.Calls.{Call, World, step, after, Creation, created, Good}
@@ -13,7 +13,6 @@ use Rattle.demands.specs.Sending.{woken_grants, granting, grants, counters_of, p
 use Rattle.tunnel.specs.Answer.{number_of, values_of}
 use Rattle.tunnel.specs.declared.event.Event.TheVariants.{SendKeepalive}
 use Rattle.base.specs.Lists.{zeros}
-use Rattle.sessions.specs.declared.session.Time.TheVariants.{Never, At}
 
 -- index 256, no persistent keepalive, time 0
 unfoldable pub creation : Creation
@@ -70,10 +69,10 @@ pub record ExampleLaw : Type 0 where
   pub keepalives : woken_grants (made (created creation) calls) ≡ granting 0 9 4 1 ∷ []
   -- the keepalive is not polled by the calls, but by one more event call
   pub unpolled : polled (made (created creation) calls) ≡ []
-  pub answered : (step here event).answer ≡ Polled (SendKeepalive 9 4)
+  pub answered : (step here event).answer ≡ Ok (Polled (Some (SendKeepalive 9 4)))
   pub polls : polled (made (created creation) (calls ++ event ∷ [])) ≡ polling 9 4 ∷ []
   -- the settling wakes once, for the keepalive with counter 5
-  pub settles : (step (step here (receiving batch)).world (settle 0 21000000000)).answer ≡ Woke 1
+  pub settles : (step (step here (receiving batch)).world (settle 0 21000000000)).answer ≡ Ok (Woke 1)
   pub settled_grants : woken_grants (made (created creation) settled) ≡ granting 0 9 4 1 ∷ granting 0 9 5 1 ∷ []
   pub settled_polls : polled (made (created creation) settled) ≡ polling 9 4 ∷ polling 9 5 ∷ []
   -- two counters can be sent, and are the next ones; no two can be once the session is older than 170 s
@@ -86,7 +85,7 @@ pub record ExampleLaw : Type 0 where
   pub young : values_of (step (after (created creation) (take 4 calls)) (missing 257)).answer ≡ 4 ∷ []
   pub old : values_of (step here (missing 257)).answer ≡ 8191 ∷ []
   -- heard by no batch before the first, in the end by the one that jumped
-  pub unheard : heard_of 0 (created creation) (take 3 calls) ≡ Never
+  pub unheard : heard_of 0 (created creation) (take 3 calls) ≡ None
   pub heard_first : (slot_after creation (take 3 calls) 1).last_heard ≡ 1000000
-  pub heard : heard_of 0 (created creation) calls ≡ At 4000000
+  pub heard : heard_of 0 (created creation) calls ≡ Some 4000000
   pub heard_last : (slot_after creation calls 1).last_heard ≡ 4000000

@@ -1,18 +1,16 @@
 -- A batch said of counters: which verdicts and skips the history of a session calls for. A history is the list of counters given verdict 0, the last first.
-use Rattle.std.specs.Prelude.{◌≡◌, true, false, List, [], ◌∷◌, ℕ, ◌+◌, ◌-◌, ◌^◌, ◌≤◌, ◌<◌, min, eqb, length}
+use Rattle.std.specs.Prelude.{◌≡◌, true, false, List, [], ◌∷◌, ℕ, ◌+◌, ◌-◌, ◌^◌, ◌≤◌, ◌<◌, min, eqb, length, Ok, Result, Some}
 use Rattle.base.specs.Choice.{choose}
 use Rattle.base.specs.Sums.{sum}
 use Rattle.window.specs.History.{member, expected, judged, skipped_after, Skips, among_last, Represents}
 use Rattle.sessions.specs.declared.session.Session.{Session}
-use Rattle.sessions.specs.declared.sessions.Found.TheVariants.{Got}
 use Rattle.sessions.specs.declared.sessions.Sessions.{Sessions}
 use Rattle.sessions.specs.Index.{slot_of}
 use Rattle.sessions.specs.Store.{slot_words, missing_of}
 use Rattle.sessions.specs.Sessions.{slot_at, insert, put}
 use Rattle.sessions.specs.Batch.{fits, receiving_session, receive, Batched}
 use Rattle.sessions.specs.declared.batch.Progress.{Progress}
-use Rattle.sessions.specs.declared.batch.Received.{Received}
-use Rattle.sessions.specs.declared.batch.Received.TheVariants.{Judged}
+use Rattle.error.specs.declared.Error.{Error}
 
 -- the verdict that a history calls for on a message: 7 where it failed to open, else the window's rule
 unfoldable pub verdict_on : List ℕ → (counter kind : ℕ) → ℕ
@@ -73,7 +71,7 @@ pub record BatchCall : Type 0 where
   pub skips : List ℕ
 
 -- what a call for a batch hands back
-abbrev pub receives : BatchCall → Batched Received
+abbrev pub receives : BatchCall → Batched (Result (Session × Progress) Error)
 receives c = receive c.sessions c.store c.index c.id c.now c.counters c.kinds c.verdicts c.skips
 
 -- a call with a whole ring and store and lists that make a batch, for a live session whose slot stands for a history
@@ -81,14 +79,14 @@ pub record BatchFor (c : BatchCall) (session : Session) (history : List ℕ) : T
   pub eight : length c.sessions.slots ≡ 8
   pub size : length c.store ≡ 1024
   pub batch : fits c.counters c.kinds c.verdicts c.skips ≡ true
-  pub found : receiving_session c.sessions c.index c.id c.now ≡ Got session
+  pub found : receiving_session c.sessions c.index c.id c.now ≡ Some session
   pub stands : Stands history c.sessions c.store (slot_of c.index)
 
 -- Such a call is not turned down, its verdicts and skips are those that the history calls for, and then the slot stands for the history with the counters given verdict 0.
 pub record BatchLaw (c : BatchCall) (history : List ℕ) : Type 0 where
   pub session : Session
   pub progress : Progress
-  pub received : (receives c).out ≡ Judged session progress
+  pub received : (receives c).out ≡ Ok (session, progress)
   pub judges : (receives c).verdicts ≡ verdicts_on history c.counters c.kinds
   pub skips : (receives c).skips ≡ skips_on history c.counters c.kinds
   pub stands : Stands (recorded_all history c.counters (receives c).verdicts) (put c.sessions session) (receives c).store (slot_of c.index)

@@ -1,13 +1,14 @@
 -- The calls that were made, each with what it was handed and what it handed back.
-use Rattle.std.specs.Prelude.{Bool, true, false, List, [], ◌∷◌, ◌++◌, ℕ, eqb, length, get_or}
+use Rattle.std.specs.Prelude.{Bool, true, false, List, [], ◌∷◌, ◌++◌, ℕ, eqb, length, get_or, Option, Result, Ok}
 use Rattle.base.specs.Choice.{choose}
 use Rattle.tunnel.specs.Answer.{number_of}
-use Rattle.tunnel.specs.declared.answer.Answer.TheVariants.{No, Done, NoAnswer, Initiation, Response, Keepalive, Granted, Polled, Deadline, Report, Woke}
+use Rattle.tunnel.specs.declared.answer.Answer.TheVariants.{Keepalive, Granted, Polled, Woke}
 use Rattle.tunnel.specs.declared.answer.Answer.{Answer}
-use Rattle.demands.specs.Calls.Call.{start, restart, send, receive, look, initiation, response, cookie, timeout, settle, event, deadline, missing}
+use Rattle.demands.specs.Calls.Call.{receive, initiation, response, timeout, settle}
 use Rattle.demands.specs.Calls.{Call, World, Reply, step}
 use Rattle.sessions.specs.declared.range.Range.{Range}
 use Rattle.tunnel.specs.declared.event.Event.{Event}
+use Rattle.error.specs.declared.Error.{Error}
 
 -- a call that was made: the tunnel and the store just before it, the call, and what it handed back
 pub record Made : Type 0 where
@@ -28,18 +29,7 @@ module _ {A : Type 0} where
   -- one value for each batch's session id, time and counters, one for every other call
   unfoldable pub case_batch : Call → ((id now : ℕ) → List ℕ → A) → A → A
   case_batch (receive index id now counters kinds verdicts skips) f x = f id now counters
-  case_batch (start now) f x = x
-  case_batch (restart now) f x = x
-  case_batch (send count now) f x = x
-  case_batch (look index counter now) f x = x
-  case_batch (initiation peer outcome now) f x = x
-  case_batch (response receiver peer outcome now) f x = x
-  case_batch (cookie receiver outcome now) f x = x
-  case_batch (timeout jitter now) f x = x
-  case_batch (settle jitter now) f x = x
-  case_batch event f x = x
-  case_batch deadline f x = x
-  case_batch (missing index) f x = x
+  case_batch _ f x = x
 
   -- one value for each batch for this session id that was answered good, by its time and counters, one for every other call
   abbrev pub good_batch : (id : ℕ) → Call → Reply → ((now : ℕ) → List ℕ → A) → A → A
@@ -50,62 +40,26 @@ module _ {A : Type 0} where
   unfoldable pub case_waking : Call → ((jitter now : ℕ) → A) → ((jitter now : ℕ) → A) → A → A
   case_waking (timeout jitter now) f g x = f jitter now
   case_waking (settle jitter now) f g x = g jitter now
-  case_waking (start now) f g x = x
-  case_waking (restart now) f g x = x
-  case_waking (send count now) f g x = x
-  case_waking (receive index id now counters kinds verdicts skips) f g x = x
-  case_waking (look index counter now) f g x = x
-  case_waking (initiation peer outcome now) f g x = x
-  case_waking (response receiver peer outcome now) f g x = x
-  case_waking (cookie receiver outcome now) f g x = x
-  case_waking event f g x = x
-  case_waking deadline f g x = x
-  case_waking (missing index) f g x = x
+  case_waking _ f g x = x
 
   -- one value for each response's peer and time, one for each incoming initiation's, one for every other call
   unfoldable pub case_message : Call → (ℕ → ℕ → A) → (ℕ → ℕ → A) → A → A
   case_message (response receiver peer outcome now) f g x = f peer now
   case_message (initiation peer outcome now) f g x = g peer now
-  case_message (start now) f g x = x
-  case_message (restart now) f g x = x
-  case_message (send count now) f g x = x
-  case_message (receive index id now counters kinds verdicts skips) f g x = x
-  case_message (look index counter now) f g x = x
-  case_message (cookie receiver outcome now) f g x = x
-  case_message (timeout jitter now) f g x = x
-  case_message (settle jitter now) f g x = x
-  case_message event f g x = x
-  case_message deadline f g x = x
-  case_message (missing index) f g x = x
+  case_message _ f g x = x
 
-  -- one value for each range granted by a send, one for each keepalive that a response was answered with, one for each event, one for every
-  -- other answer
-  unfoldable pub case_answer : Answer → (Range → A) → (ℕ → ℕ → A) → (Event → A) → A → A
-  case_answer (Granted range) f g e x = f range
-  case_answer (Keepalive peer counter) f g e x = g peer counter
-  case_answer (Polled answered) f g e x = e answered
-  case_answer (No number) f g e x = x
-  case_answer Done f g e x = x
-  case_answer NoAnswer f g e x = x
-  case_answer (Initiation local) f g e x = x
-  case_answer (Response local peer) f g e x = x
-  case_answer (Deadline time) f g e x = x
-  case_answer (Report count) f g e x = x
-  case_answer (Woke wakings) f g e x = x
+  -- one value for each range granted by a send, one for each keepalive that a response was answered with, one for each event or none that the
+  -- event call answered, one for every other answer
+  unfoldable pub case_answer : Result Answer Error → (Range → A) → (ℕ → ℕ → A) → (Option Event → A) → A → A
+  case_answer (Ok (Granted range)) f g e x = f range
+  case_answer (Ok (Keepalive peer counter)) f g e x = g peer counter
+  case_answer (Ok (Polled answered)) f g e x = e answered
+  case_answer _ f g e x = x
 
 -- the number of wakings that a settling answered, 0 for every other answer
-unfoldable pub wakings_of : Answer → ℕ
-wakings_of (Woke wakings) = wakings
-wakings_of (No number) = 0
-wakings_of Done = 0
-wakings_of NoAnswer = 0
-wakings_of (Initiation local) = 0
-wakings_of (Response local peer) = 0
-wakings_of (Keepalive peer counter) = 0
-wakings_of (Granted range) = 0
-wakings_of (Polled answered) = 0
-wakings_of (Deadline time) = 0
-wakings_of (Report count) = 0
+unfoldable pub wakings_of : Result Answer Error → ℕ
+wakings_of (Ok (Woke wakings)) = wakings
+wakings_of _ = 0
 
 -- a handshake message that inserted a session: whether this tunnel had initiated, the peer's index given with it, and its time
 pub record Insertion : Type 0 where
@@ -118,7 +72,7 @@ abbrev pub insertion : Bool → (peer at : ℕ) → Insertion
 insertion initiated peer at = record { initiated = initiated; peer = peer; at = at }
 
 -- the insertion of a call: a response or an incoming initiation that was answered good
-unfoldable pub insertion_by : Call → Answer → List Insertion
+unfoldable pub insertion_by : Call → Result Answer Error → List Insertion
 insertion_by call answer =
     choose (eqb (number_of answer) 0)
     (case_message call (λ peer now. insertion true peer now ∷ []) (λ peer now. insertion false peer now ∷ []) [])

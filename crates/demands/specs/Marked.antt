@@ -1,5 +1,5 @@
 -- The marked cases of document 01, in one table: what is set up, what is called, what must come out.
-use Rattle.std.specs.Prelude.{Bool, true, false, List, [], ◌∷◌, ◌++◌, ℕ, zero, suc, ◌*◌, eqb}
+use Rattle.std.specs.Prelude.{Bool, true, false, List, [], ◌∷◌, ◌++◌, ℕ, zero, suc, ◌*◌, eqb, Result}
 use Rattle.base.specs.Choice.{◌and◌}
 use Rattle.base.specs.Lists.{zeros}
 use Rattle.demands.specs.Calls.Call.{start, send, receive, initiation, response, timeout, event, deadline}
@@ -9,6 +9,7 @@ use Rattle.tunnel.specs.Answer.{Word, answer_word, values_of}
 use Rattle.tunnel.specs.declared.answer.Answer.{Answer}
 use Rattle.window.specs.History.{Window, verdict, given}
 use Rattle.window.specs.Window.{set_bit}
+use Rattle.error.specs.declared.Error.{Error}
 
 -- two lists of numbers are the same
 unfoldable pub same : List ℕ → List ℕ → Bool
@@ -52,7 +53,7 @@ code Word.missing = 10
 code woke = 11
 
 -- an answer has this word and these values
-unfoldable pub says : Answer → Word → List ℕ → Bool
+unfoldable pub says : Result Answer Error → Word → List ℕ → Bool
 says answer word values = eqb (code (answer_word answer)) (code word) and same (values_of answer) values
 
 -- a creation at time 0 over a store of zeros

@@ -1,5 +1,5 @@
 -- Demand 2, the missing report: a recount of what was committed.
-use Rattle.std.specs.Prelude.{◌≡◌, true, List, [], ◌∷◌, ℕ, ◌+◌, ◌^◌, ◌<◌, min}
+use Rattle.std.specs.Prelude.{◌≡◌, true, List, [], ◌∷◌, ℕ, ◌+◌, ◌^◌, ◌<◌, min, Result}
 use Rattle.tunnel.specs.Answer.{number_of, values_of}
 use Rattle.tunnel.specs.declared.answer.Answer.{Answer}
 use Rattle.demands.specs.Calls.Call.{missing}
@@ -10,17 +10,18 @@ use Rattle.demands.specs.Receiving.{history_of}
 use Rattle.sessions.specs.Sessions.{slot_at}
 use Rattle.sessions.specs.declared.session.Session.{Session}
 use Rattle.window.specs.History.{expected, among_last}
+use Rattle.error.specs.declared.Error.{Error}
 
 -- the record of a slot after a list of calls
 abbrev pub slot_after : Creation → List Call → ℕ → Session
 slot_after c calls slot = slot_at (after (created c) calls).tunnel.control.sessions slot
 
 -- the answer of the missing report of a slot's local index after a list of calls
-abbrev pub missing_after : Creation → List Call → ℕ → Answer
+abbrev pub missing_after : Creation → List Call → ℕ → Result Answer Error
 missing_after c calls slot = (step (after (created c) calls) (missing (slot_after c calls slot).receiving_index)).answer
 
 -- What the missing report of a session with this history answers:
-pub record ReportLaw (history : List ℕ) (answer : Answer) : Type 0 where
+pub record ReportLaw (history : List ℕ) (answer : Result Answer Error) : Type 0 where
   -- good, and how many of the last 8,192 counters below the next expected one, or of all where there are fewer, are not committed
   pub good : number_of answer ≡ 0
   pub counts : values_of answer ≡ uncommitted history ∷ []

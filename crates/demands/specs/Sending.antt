@@ -1,6 +1,6 @@
 -- Demand 2, sending: the counters that a session grants, to data and to keepalives, said of the calls made and their answers.
-use Rattle.std.specs.Prelude.{◌≡◌, Bool, true, false, List, [], ◌∷◌, ◌++◌, ℕ, zero, suc, ◌+◌, ◌-◌, ◌^◌, ◌≤◌, ◌<◌, eqb, length, get_or}
-use Rattle.base.specs.Choice.{choose}
+use Rattle.std.specs.Prelude.{◌≡◌, Bool, true, false, List, [], ◌∷◌, ◌++◌, ℕ, zero, suc, ◌+◌, ◌-◌, ◌^◌, ◌≤◌, ◌<◌, eqb, length, get_or, Option, None, Some, Result, Ok}
+use Rattle.base.specs.Choice.{choose, case_option}
 use Rattle.base.specs.Lists.{up_from}
 use Rattle.tunnel.specs.declared.answer.Answer.TheVariants.{Granted}
 use Rattle.tunnel.specs.declared.answer.Answer.{Answer}
@@ -11,15 +11,13 @@ use Rattle.demands.specs.Wakings.{ran_new, ran_after, Current}
 use Rattle.tunnel.specs.Answer.{number_of, values_of}
 use Rattle.tunnel.specs.Cases.{case_event}
 use Rattle.tunnel.specs.RingBuffer.{place_of, event_at}
-use Rattle.tunnel.specs.declared.event.Event.TheVariants.{Empty, SendKeepalive}
+use Rattle.tunnel.specs.declared.event.Event.TheVariants.{SendKeepalive}
 use Rattle.tunnel.specs.declared.event.Event.{Event}
 use Rattle.tunnel.specs.declared.ring_buffer.RingBuffer.{RingBuffer}
-use Rattle.sessions.specs.Cases.{case_found}
 use Rattle.sessions.specs.Sessions.{current_of}
 use Rattle.sessions.specs.declared.range.Range.{Range}
 use Rattle.sessions.specs.declared.session.Session.{Session}
-use Rattle.sessions.specs.declared.sessions.Found.TheVariants.{Got}
-use Rattle.sessions.specs.declared.sessions.Found.{Found}
+use Rattle.error.specs.declared.Error.{Error}
 
 -- a grant: a session's id, its peer's index, and consecutive counters
 pub record Grant : Type 0 where
@@ -33,26 +31,27 @@ abbrev pub granting : (id peer first len : ℕ) → Grant
 granting id peer first len = record { id = id; peer = peer; first = first; len = len }
 
 -- the session that is current
-abbrev pub current_in : World → Found
+abbrev pub current_in : World → Option Session
 current_in w = current_of w.tunnel.control.sessions
 
 -- whether nothing was put into a ring
 unfoldable pub still : RingBuffer → RingBuffer → Bool
 still before left = choose (eqb left.head before.head) (eqb left.len before.len) false
 
--- the event that a call put last into the ring, or the empty one
-unfoldable pub put_last : RingBuffer → RingBuffer → Event
-put_last before left = choose (still before left) Empty (event_at left.slots (place_of left.head (left.len - 1)))
+-- the event that a call put last into the ring, if it put any
+unfoldable pub put_last : RingBuffer → RingBuffer → Option Event
+put_last before left = choose (still before left) None (event_at left.slots (place_of left.head (left.len - 1)))
 
--- the event that a call puts last into the ring
-abbrev pub put_by : World → Call → Event
+-- the event that a call puts last into the ring, if it puts any
+abbrev pub put_by : World → Call → Option Event
 put_by w call = put_last w.tunnel.control.events (step w call).world.tunnel.control.events
 
 -- the grant of a keepalive event, of this session
-unfoldable pub keepalive_by : Found → Event → List Grant
+unfoldable pub keepalive_by : Option Session → Option Event → List Grant
 keepalive_by found put =
-    case_event put [] (λ local. []) (λ peer counter. case_found found [] (λ session. granting session.id peer counter 1 ∷ []))
-    (λ started confirmed. []) []
+    case_option put []
+    (λ event. case_event event (λ local. []) (λ peer counter. case_option found [] (λ session. granting session.id peer counter 1 ∷ []))
+    (λ started confirmed. []) [])
 
 -- the grant of a single waking: the keepalive that it puts last into the ring, of the session current just before
 unfoldable pub waking_grant : World → (jitter now : ℕ) → List Grant
@@ -70,10 +69,10 @@ woken_grant w call reply = case_waking call (waking_grant w) (waking_grants (wak
 
 -- the grant of an answer, after n insertions: a send's is the range it answered, of the session current just before; a response's is the
 -- counter it answered, of the session it inserted, whose id is the number of insertions before
-unfoldable pub answered_grant : (n : ℕ) → World → Answer → List Grant
+unfoldable pub answered_grant : (n : ℕ) → World → Result Answer Error → List Grant
 answered_grant n w answer =
     case_answer answer
-    (λ range. case_found (current_in w) [] (λ session. granting session.id range.peer range.first range.len ∷ []))
+    (λ range. case_option (current_in w) [] (λ session. granting session.id range.peer range.first range.len ∷ []))
     (λ peer counter. granting n peer counter 1 ∷ [])
     (λ event. [])
     []
@@ -109,10 +108,11 @@ abbrev pub polling : (peer counter : ℕ) → PolledKeepalive
 polling peer counter = record { peer = peer; counter = counter }
 
 -- the keepalive of an answered event
-unfoldable pub polled_by : Answer → List PolledKeepalive
+unfoldable pub polled_by : Result Answer Error → List PolledKeepalive
 polled_by answer =
     case_answer answer (λ range. []) (λ peer counter. [])
-    (λ event. case_event event [] (λ local. []) (λ peer counter. polling peer counter ∷ []) (λ started confirmed. []) [])
+    (λ answered. case_option answered []
+    (λ event. case_event event (λ local. []) (λ peer counter. polling peer counter ∷ []) (λ started confirmed. []) []))
     []
 
 -- the keepalives that event calls answered, in the order of the calls
@@ -154,7 +154,7 @@ pub record CanSend (c : Creation) (calls : List Call) (count now : ℕ) : Type 0
   pub left : granted_to current.0.id (made_by c calls) + count ≤ 2 ^ 64 - 8193
 
 -- the answer of a send after a list of calls
-abbrev pub send_after : Creation → List Call → (count now : ℕ) → Answer
+abbrev pub send_after : Creation → List Call → (count now : ℕ) → Result Answer Error
 send_after c calls count now = (step (world_after c calls) (send count now)).answer
 
 -- After a list of calls:
@@ -164,11 +164,11 @@ pub record SendingLaw (c : Creation) (calls : List Call) : Type 0 where
   -- each is below 2^64 - 8,193
   pub below : (id i : ℕ) → i < granted_to id (made_by c calls) → get_or (counters_of id (grants (made_by c calls))) i 0 < 2 ^ 64 - 8193
   -- each is granted by a current session, to the peer given with its handshake message: those of a send
-  pub sends : (count now : ℕ) (range : Range) → send_after c calls count now ≡ Granted range
-      → (session : Session) × (current_in (world_after c calls) ≡ Got session) × ((message_of session.id (made_by c calls)).peer ≡ range.peer)
+  pub sends : (count now : ℕ) (range : Range) → send_after c calls count now ≡ Ok (Granted range)
+      → (session : Session) × (current_in (world_after c calls) ≡ Some session) × ((message_of session.id (made_by c calls)).peer ≡ range.peer)
   -- and that of a waking, so also of each single waking of a settling, which comes after the calls and the wakings before it
-  pub wakes : (jitter now peer counter : ℕ) → put_by (world_after c calls) (timeout jitter now) ≡ SendKeepalive peer counter
-      → (session : Session) × (current_in (world_after c calls) ≡ Got session) × ((message_of session.id (made_by c calls)).peer ≡ peer)
+  pub wakes : (jitter now peer counter : ℕ) → put_by (world_after c calls) (timeout jitter now) ≡ Some (SendKeepalive peer counter)
+      → (session : Session) × (current_in (world_after c calls) ≡ Some session) × ((message_of session.id (made_by c calls)).peer ≡ peer)
   -- the keepalives that event calls answered are those that wakings and settlings granted, in order, none twice, some overwritten or still queued
   pub polls : TakenFrom (polled (made_by c calls)) (woken_grants (made_by c calls))
   -- a send that a session can meet answers the peer of its handshake message, the counters granted so far as the first, and the count

@@ -1,6 +1,6 @@
 -- Demand 3: extra wakings that come early change nothing. Two tunnels are created alike and given the same calls, one of them extra wakings among
 -- these; under three conditions every shared call gives both the same.
-use Rattle.std.specs.Prelude.{◌≡◌, Bool, true, false, List, [], ◌∷◌, ◌++◌, ◌⊎◌, ℕ, ◌≤◌, ◌<◌, ltb, eqb}
+use Rattle.std.specs.Prelude.{◌≡◌, Bool, true, false, List, [], ◌∷◌, ◌++◌, ◌⊎◌, ℕ, ◌≤◌, ◌<◌, ltb, eqb, None, Option, Some, Result, Ok}
 use Rattle.base.specs.Choice.{choose}
 use Rattle.tunnel.specs.Control.{new_control, poll_event}
 use Rattle.tunnel.specs.InitiateHandshake.{start_handshake, restart_handshake}
@@ -19,10 +19,8 @@ use Rattle.sessions.specs.Session.{time_limit}
 use Rattle.sessions.specs.Sessions.{slot_at, current_of}
 use Rattle.base.specs.Lists.{zeros}
 use Rattle.sessions.specs.declared.session.Session.{Session}
-use Rattle.sessions.specs.declared.session.Time.TheVariants.{Never, At}
-use Rattle.sessions.specs.declared.session.Time.{Time}
-use Rattle.sessions.specs.declared.sessions.Found.TheVariants.{Got}
-use Rattle.tunnel.specs.Arguments.{interval_of, opening_outcome, initiation_outcome, lacking, bad_outcome, bad_jitter, bad_batch}
+use Rattle.error.specs.declared.Error.{Error}
+use Rattle.tunnel.specs.Arguments.{interval_of, opening_outcome, initiation_outcome, unnamed, named_of, lacking, bad_outcome, bad_jitter, bad_batch}
 
 -- a shared call, or an extra waking of the woken tunnel
 pub data Step : Type 0 where
@@ -69,14 +67,14 @@ ran r (look index counter now) =
     took r (lacking r.store) now (decapsulate.begin_decapsulate r.control r.store index counter now) r.store
 ran r (initiation peer outcome now) =
     took r (bad_outcome (initiation_outcome outcome) r.store) now
-    (handle_handshake_initiation r.control r.store peer (initiation_outcome outcome) now).out
-    (handle_handshake_initiation r.control r.store peer (initiation_outcome outcome) now).store
+    (handle_handshake_initiation r.control r.store peer (named_of (initiation_outcome outcome)) now).out
+    (handle_handshake_initiation r.control r.store peer (named_of (initiation_outcome outcome)) now).store
 ran r (response receiver peer outcome now) =
     took r (bad_outcome (opening_outcome outcome) r.store) now
-    (handle_handshake_response r.control r.store receiver peer (opening_outcome outcome) now).out
-    (handle_handshake_response r.control r.store receiver peer (opening_outcome outcome) now).store
+    (handle_handshake_response r.control r.store receiver peer (named_of (opening_outcome outcome)) now).out
+    (handle_handshake_response r.control r.store receiver peer (named_of (opening_outcome outcome)) now).store
 ran r (cookie receiver outcome now) =
-    took r (eqb (opening_outcome outcome) 2) now (handle_cookie_reply r.control receiver (opening_outcome outcome) now) r.store
+    took r (unnamed (opening_outcome outcome)) now (handle_cookie_reply r.control receiver (named_of (opening_outcome outcome)) now) r.store
 ran r (timeout jitter now) =
     took r (bad_jitter jitter r.store) now (handle_timeout r.control r.store jitter now).out
     (handle_timeout r.control r.store jitter now).store
@@ -98,31 +96,29 @@ ran_new c = record { control = new_control c.index (interval_of c.keepalive) c.n
 
 -- current: the Rust has a current session, its slot still filled
 abbrev pub Current : Ran → Type 0
-Current r = (session : Session) × (current_of r.control.sessions ≡ Got session)
+Current r = (session : Session) × (current_of r.control.sessions ≡ Some session)
 
 -- earlier than the deadline that the tunnel would report just then
 abbrev pub BeforeDeadline : World → ℕ → Type 0
-BeforeDeadline w now = (due : ℕ) × ((step w deadline).answer ≡ Deadline (At due)) × (now < due)
+BeforeDeadline w now = (due : ℕ) × ((step w deadline).answer ≡ Ok (Deadline (Some due))) × (now < due)
 
 -- the time of a call that has one
-unfoldable pub time_of : Call → Time
-time_of (start now) = At now
-time_of (restart now) = At now
-time_of (send count now) = At now
-time_of (receive index id now counters kinds verdicts skips) = At now
-time_of (look index counter now) = At now
-time_of (initiation peer outcome now) = At now
-time_of (response receiver peer outcome now) = At now
-time_of (cookie receiver outcome now) = At now
-time_of (timeout jitter now) = At now
-time_of (settle jitter now) = At now
-time_of event = Never
-time_of deadline = Never
-time_of (missing index) = Never
+unfoldable pub time_of : Call → Option ℕ
+time_of (start now) = Some now
+time_of (restart now) = Some now
+time_of (send count now) = Some now
+time_of (receive index id now counters kinds verdicts skips) = Some now
+time_of (look index counter now) = Some now
+time_of (initiation peer outcome now) = Some now
+time_of (response receiver peer outcome now) = Some now
+time_of (cookie receiver outcome now) = Some now
+time_of (timeout jitter now) = Some now
+time_of (settle jitter now) = Some now
+time_of _ = None
 
 -- a call is not earlier than a time: if it has a time, that is at least this one
 abbrev pub NotEarlier : ℕ → Call → Type 0
-NotEarlier time call = (now : ℕ) → time_of call ≡ At now → time ≤ now
+NotEarlier time call = (now : ℕ) → time_of call ≡ Some now → time ≤ now
 
 -- each extra waking is earlier than the deadline that this tunnel would report just then, or finds it expired
 abbrev pub ComesEarly : World → List Step → Type 0
@@ -146,9 +142,9 @@ pub record Admissible (c : Creation) (steps : List Step) : Type 0 where
   pub order : InOrder steps
 
 -- two answers are equal, or deadlines that have both come by the latest time given
-pub data Alike (latest : ℕ) : Answer → Answer → Type 0 where
-  equal : (answer : Answer) → Alike latest answer answer
-  come : (a b : ℕ) → a ≤ latest → b ≤ latest → Alike latest (Deadline (At a)) (Deadline (At b))
+pub data Alike (latest : ℕ) : Result Answer Error → Result Answer Error → Type 0 where
+  equal : (answer : Result Answer Error) → Alike latest answer answer
+  come : (a b : ℕ) → a ≤ latest → b ≤ latest → Alike latest (Ok (Deadline (Some a))) (Ok (Deadline (Some b)))
 
 -- a slot of both tunnels: filled in both or in none, and where it is, last heard at the same time
 pub record HeardAlike (plain woken : Session) : Type 0 where

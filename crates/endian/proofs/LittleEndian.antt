@@ -1,19 +1,18 @@
--- Numbers in bytes with the least significant byte first: what single functions of src/little_endian.rt ask, and the parts of the law, each by
+-- Numbers in bytes with the least significant byte first: the library's numbers of bytes and bytes of numbers, and the parts of the law, each by
 -- induction over the width.
 -- Assumes nothing.
 use mathlib.Core.Path.{◌≡◌, refl, ap, sym, ◌∙◌}
 use mathlib.Core.Bool.{Bool, true, false}
-use mathlib.Core.List.{List, [], ◌∷◌, ◌++◌, append-nil}
+use mathlib.Core.List.{List, [], ◌∷◌}
 use Prim.Native.Nat.{ℕ, zero, suc, ◌+◌, ◌*◌, ◌/◌, ◌%◌, ◌^◌, ◌≤◌, ◌<◌}
-use native.Mathlib.Nat.{pow-suc, pow-succ', div-div-eq-div-mul, mul_assoc, zero-mul}
+use native.Mathlib.Nat.{pow-suc, pow-succ', div-div-eq-div-mul, mul_assoc}
 use native.Mathlib.Omega.{arith}
 use lib.Dec.{ltb}
-use lib.ListN.{length, get_or, set, take, drop, length-take, length-drop, drop_of_length-le, get_or-eq_default}
-use lib.Pow.{field as pow-field, mod-mod-pow}
-use lib.Seq.{take_all, length-take-le, get_or-take, get_or-drop}
+use lib.ListN.{length, get_or, take, drop, length-take, length-drop, get_or-eq_default}
+use lib.Seq.{length-take-le, get_or-take, get_or-drop}
 use borrow.Author.Tests.{ltb-true, ltb-false}
-use borrow.Rule.Slice.PartMut.{put_mid}
-use Rattle.base.proofs.Parts.{put_next}
+use Rattle.std.specs.Array.{IsWholeChunk}
+use Rattle.std.specs.Int.{byte_at, byte_worth, bytes_low_first, sum_through}
 use Rattle.endian.specs.LittleEndian.{field, from_le_bytes, to_le_bytes, Bytes}
 
 -- so many bytes are so many
@@ -22,80 +21,50 @@ unfolding to_le_bytes
 to_size zero n = refl
 to_size (suc width) n = ap suc (to_size width (n / 256))
 
--- four bytes and their weights
-pub joined_bytes : (a b c d : ℕ) → a + b * 256 + c * 65536 + d * 16777216 ≡ from_le_bytes (a ∷ b ∷ c ∷ d ∷ [])
-unfolding from_le_bytes
-joined_bytes a b c d = omega arith
+-- a sum that begins at its first term
+sum_from : (f : ℕ → ℕ) (k : ℕ) → sum_through f (suc k) ≡ f 0 + sum_through (λ i. f (suc i)) k
+sum_from f zero = refl
+sum_from f (suc k) = omega (arith, sum_from f k)
 
--- what is made of a list's four elements is made of the list
-pub four_bytes : (bytes : List ℕ) (r : ℕ) → length bytes ≡ 4
-    → r ≡ from_le_bytes (get_or bytes 0 0 ∷ get_or bytes 1 0 ∷ get_or bytes 2 0 ∷ get_or bytes 3 0 ∷ []) → r ≡ from_le_bytes bytes
-four_bytes (a ∷ b ∷ c ∷ d ∷ []) r h e = e
-four_bytes [] r h e = absurd (omega arith)
-four_bytes (a ∷ []) r h e = absurd (omega arith)
-four_bytes (a ∷ b ∷ []) r h e = absurd (omega arith)
-four_bytes (a ∷ b ∷ c ∷ []) r h e = absurd (omega arith)
-four_bytes (a ∷ b ∷ c ∷ d ∷ f ∷ rest) r h e = absurd (omega arith)
+-- bytes one place higher count 256 times as much
+worth_next : (f : ℕ → ℕ) (k : ℕ) → sum_through (λ i. byte_worth (suc i) (f i)) k ≡ 256 * sum_through (λ i. byte_worth i (f i)) k
+worth_next f zero = omega arith
+worth_next f (suc k) = omega (arith, worth_next f k, ap (λ (n : ℕ). f (suc k) * n) (pow-suc 256 (suc k)) ∙ sym (mul_assoc (f (suc k)) (256 ^ suc k) 256))
 
--- the first bytes and the rest
-from_parts : (width : ℕ) (bytes : List ℕ) → from_le_bytes (take width bytes) + from_le_bytes (drop width bytes) * 256 ^ width ≡ from_le_bytes bytes
+-- the library's number of bytes is the number that they make
+from_worth : (bytes : List ℕ) (k : ℕ) → length bytes ≡ suc k → sum_through (λ i. byte_worth i (get_or bytes i 0)) k ≡ from_le_bytes bytes
 unfolding from_le_bytes
-from_parts zero bytes = omega arith
-from_parts (suc width) [] = omega (arith, zero-mul (256 ^ suc width))
-from_parts (suc width) (byte ∷ bytes) =
+from_worth [] k h = absurd (omega arith)
+from_worth (byte ∷ []) zero h = omega arith
+from_worth (byte ∷ more ∷ bytes) zero h = absurd (omega arith)
+from_worth (byte ∷ bytes) (suc k) h =
     omega (
       arith,
-      from_parts width bytes,
-      ap (λ (n : ℕ). from_le_bytes (drop width bytes) * n) (pow-suc 256 width) ∙ sym (mul_assoc (from_le_bytes (drop width bytes)) (256 ^ width) 256),
+      sum_from (λ i. byte_worth i (get_or (byte ∷ bytes) i 0)) k,
+      worth_next (λ i. get_or bytes i 0) k,
+      from_worth bytes k (omega arith),
     )
 
-pub two_halves : (bytes : List ℕ) (low high : ℕ) → low ≡ from_le_bytes (take 4 (drop 0 bytes)) → high ≡ from_le_bytes (take 4 (drop 4 bytes)) → length bytes ≡ 8
-    → low + high * 4294967296 ≡ from_le_bytes bytes
-two_halves bytes low high l h e =
-    let rest : take 4 (drop 4 bytes) ≡ drop 4 bytes = take_all 4 (drop 4 bytes) (omega (arith, length-drop 4 bytes)) in
-    rw (l, h, rest) (from_parts 4 bytes)
+-- the four or eight bytes that a number of the library's was made of
+pub from_chunk : (bytes chunk : List ℕ) (r k : ℕ) → IsWholeChunk bytes chunk (suc k) → r ≡ sum_through (λ i. byte_worth i (get_or chunk i 0)) k → r ≡ from_le_bytes bytes
+from_chunk bytes chunk r k h e = rw (e, h.same) (from_worth bytes k h.long)
 
--- four bytes stored one by one
-pub four_stored : (bytes : List ℕ) (n : ℕ) → length bytes ≡ 4 → n < 4294967296
-    → set (set (set (set bytes 0 (n % 256)) 1 (n / 256 % 256)) 2 (n / 65536 % 256)) 3 (n / 16777216) ≡ to_le_bytes 4 n
+-- the library's bytes of a number from one on are the number's bytes
+to_from_place : (place width n : ℕ) → bytes_low_first place width n ≡ to_le_bytes width (n / 256 ^ place)
 unfolding to_le_bytes
-four_stored (a ∷ b ∷ c ∷ d ∷ []) n h l =
-    let third : n / 65536 % 256 ≡ n / 256 / 256 % 256 = omega arith in
-    let fourth : n / 16777216 ≡ n / 256 / 256 / 256 % 256 = omega arith in
-    rw (third, fourth)
-four_stored [] n h l = absurd (omega arith)
-four_stored (a ∷ []) n h l = absurd (omega arith)
-four_stored (a ∷ b ∷ []) n h l = absurd (omega arith)
-four_stored (a ∷ b ∷ c ∷ []) n h l = absurd (omega arith)
-four_stored (a ∷ b ∷ c ∷ d ∷ f ∷ rest) n h l = absurd (omega arith)
+to_from_place place zero n = refl
+to_from_place place (suc width) n = ap (λ (b : ℕ). b ∷ bytes_low_first (suc place) width n) (at_place place n) ∙ ap (λ (l : List ℕ). n / 256 ^ place % 256 ∷ l) (to_from_place (suc place) width n ∙ ap (to_le_bytes width) (above place n))
+  where
+    at_place : (place n : ℕ) → byte_at place n ≡ n / 256 ^ place % 256
+    at_place zero n = omega arith
+    at_place (suc place) n = refl
 
--- the bits of so many bytes
-unfoldable bits : ℕ → ℕ
-bits zero = 0
-bits (suc width) = bits width + 8
+    above : (place n : ℕ) → n / 256 ^ suc place ≡ n / 256 ^ place / 256
+    above place n = ap (λ (m : ℕ). n / m) (pow-suc 256 place) ∙ sym (div-div-eq-div-mul n (256 ^ place) 256)
 
--- the low bytes of a number do not depend on what is above them
-to_low : (width n : ℕ) → to_le_bytes width (n % 2 ^ bits width) ≡ to_le_bytes width n
-unfolding to_le_bytes bits
-to_low zero n = refl
-to_low (suc width) n =
-    let first : n % 2 ^ (bits width + 8) % 256 ≡ n % 256 = mod-mod-pow n (bits width) 8 in
-    let rest : n % 2 ^ (bits width + 8) / 256 ≡ n / 256 % 2 ^ bits width = pow-field n (bits width) 8 in
-    rw (first, rest) (ap (λ (l : List ℕ). n % 256 ∷ l) (to_low width (n / 256)))
-
--- the two halves of eight bytes
-halves : (n : ℕ) → to_le_bytes 4 (n % 4294967296) ++ to_le_bytes 4 (n / 4294967296) ≡ to_le_bytes 8 n
-unfolding to_le_bytes bits
-halves n =
-    let high : n / 4294967296 ≡ n / 256 / 256 / 256 / 256 = omega arith in
-    rw high (ap (λ (l : List ℕ). l ++ to_le_bytes 4 (n / 256 / 256 / 256 / 256)) (to_low 4 n))
-
-pub two_stored : (bytes low high : List ℕ) (n : ℕ) → length bytes ≡ 8 → low ≡ to_le_bytes 4 (n % 4294967296) → high ≡ to_le_bytes 4 (n / 4294967296)
-    → put_mid 4 4 (low ++ drop 4 (drop 0 bytes)) high ≡ to_le_bytes 8 n
-two_stored bytes low high n e l h =
-    let none : drop 4 (drop 4 (drop 0 bytes)) ≡ [] = drop_of_length-le (drop 4 bytes) {i = 4} (omega (arith, length-drop 4 bytes)) in
-    put_next low (drop 4 (drop 0 bytes)) high 4 4 (ap length l ∙ to_size 4 (n % 4294967296))
-    ∙ rw (none, append-nil (low ++ high), l, h) (halves n)
+-- the bytes that the library makes of a number
+pub to_chunk : (bytes : List ℕ) (width n : ℕ) → bytes ≡ bytes_low_first 0 width n → bytes ≡ to_le_bytes width n
+to_chunk bytes width n e = e ∙ to_from_place 0 width n ∙ ap (to_le_bytes width) (omega arith)
 
 -- the parts of the law
 pub to_byte : (width n place : ℕ) → place < width → get_or (to_le_bytes width n) place 0 ≡ n / 256 ^ place % 256

@@ -6,7 +6,6 @@
 mod appending;
 mod lists;
 mod reading;
-mod tally;
 
 use crate::appending::append_groups;
 use crate::reading::read_groups;

@@ -1,133 +1,81 @@
 // The cases of reading. The log has three callouts, oldest first: one record in 48 bytes, none in 16, and three in 112.
-ghost use Rattle.std.specs.Prelude.{◌≤◌};
-
 use crate::appending::append_records;
-use crate::lists::{
-    COUNTER, COUNTERS, COUNTS, LOCAL_INDEX, LOCAL_INDICES, Lent, SESSION_ID, SESSION_IDS, TIME,
-    TIMES, VERDICT, VERDICTS, all_of, at_most,
-};
-use crate::tally::{Tally, case_of, no_cases};
-use callout_log::read::{Walked, read};
+use crate::lists::{COUNTERS, LOCAL_INDICES, Lengths, SESSION_IDS, TIMES, VERDICTS, equal};
+use callout_log::read::{Lists, read};
+use error::Error;
 use std::io;
 use std::io::Write;
+use tally::Tally;
 
-// What is added to a number that turns a call down, so that it is not taken for a number of callouts.
-const NO: usize = 100;
-
-// What reading answers, as one number.
-fn answer_of(walked: Walked) -> usize {
-    match walked {
-        Walked::No(number) => 100 + number as usize,
-        Walked::Callouts(callouts) => callouts,
-    }
+// What the six lists hold.
+#[derive(Clone, Copy, PartialEq, Eq)]
+struct Held {
+    counts: [u32; 8],
+    times: [u64; 8],
+    counters: [u64; 8],
+    session_ids: [u64; 8],
+    local_indices: [u32; 8],
+    verdicts: [u8; 8],
 }
 
-// The count at a place after an answer, the last callout's first.
-fn count_at(answer: usize, place: usize) -> u32 {
-    if answer > 3 {
-        return 165;
-    }
-    if place >= answer {
-        return 165;
-    }
-    match answer - place {
-        3 => 3,
-        2 => 0,
-        _ => 1,
-    }
-}
-
-// The record at a place after an answer, 7 for none.
-fn record_at(answer: usize, place: usize) -> usize
-    ensures { result ≤ 7 }
-{
+// The counts after an answer, the last callout's first.
+fn counts_after(answer: Result<usize, Error>) -> [u32; 8] {
     match answer {
-        1 | 2 => match place {
-            0 => 0,
-            _ => 7,
-        },
-        3 => match place {
-            0 | 3 => 0,
-            1 => 1,
-            2 => 2,
-            _ => 7,
-        },
-        _ => 7,
+        Ok(1) => [1, 165, 165, 165, 165, 165, 165, 165],
+        Ok(2) => [0, 1, 165, 165, 165, 165, 165, 165],
+        Ok(3) => [3, 0, 1, 165, 165, 165, 165, 165],
+        _ => [165; 8],
     }
 }
 
-// Whether the lists hold what they must after an answer.
-fn are_read(
-    answer: usize,
-    counts: &[u32; 8],
-    times: &[u64; 8],
-    counters: &[u64; 8],
-    session_ids: &[u64; 8],
-    local_indices: &[u32; 8],
-    verdicts: &[u8; 8],
-) -> bool {
-    let mut i = 0;
-    while i < 8 {
-        let record = record_at(answer, i);
-        if counts[i] != count_at(answer, i) {
-            return false;
-        }
-        if times[i] != TIME[record] {
-            return false;
-        }
-        if counters[i] != COUNTER[record] {
-            return false;
-        }
-        if session_ids[i] != SESSION_ID[record] {
-            return false;
-        }
-        if local_indices[i] != LOCAL_INDEX[record] {
-            return false;
-        }
-        if verdicts[i] != VERDICT[record] {
-            return false;
-        }
-        i = i + 1;
+// Which of the reports are read with an answer, 7 for none.
+fn reports_after(answer: Result<usize, Error>) -> [usize; 8] {
+    match answer {
+        Ok(1 | 2) => [0, 7, 7, 7, 7, 7, 7, 7],
+        Ok(3) => [0, 1, 2, 0, 7, 7, 7, 7],
+        _ => [7; 8],
     }
-    true
+}
+
+// What the lists must hold after an answer.
+fn held_after(answer: Result<usize, Error>) -> Held {
+    let reports = reports_after(answer);
+    Held {
+        counts: counts_after(answer),
+        times: reports.map(|report| TIMES[report % 8]),
+        counters: reports.map(|report| COUNTERS[report % 8]),
+        session_ids: reports.map(|report| SESSION_IDS[report % 8]),
+        local_indices: reports.map(|report| LOCAL_INDICES[report % 8]),
+        verdicts: reports.map(|report| VERDICTS[report % 8]),
+    }
 }
 
 // Whether reading the log in a store into so much of lists of 165s gives an answer.
-fn holds(store: &[u8], used: usize, lent: Lent, answer: usize) -> bool {
-    let mut counts = [165u32; 8];
-    let mut times = [165u64; 8];
-    let mut counters = [165u64; 8];
-    let mut session_ids = [165u64; 8];
-    let mut local_indices = [165u32; 8];
-    let mut verdicts = [165u8; 8];
-    let a = lent.of(COUNTS);
-    let b = lent.of(TIMES);
-    let c = lent.of(COUNTERS);
-    let d = lent.of(SESSION_IDS);
-    let e = lent.of(LOCAL_INDICES);
-    let f = lent.of(VERDICTS);
-    let walked = read(
-        store,
-        used,
-        &mut counts[0..a],
-        &mut times[0..b],
-        &mut counters[0..c],
-        &mut session_ids[0..d],
-        &mut local_indices[0..e],
-        &mut verdicts[0..f],
-    );
-    if answer_of(walked) != answer {
-        return false;
-    }
-    are_read(
-        answer,
-        &counts,
-        &times,
-        &counters,
-        &session_ids,
-        &local_indices,
-        &verdicts,
-    )
+fn holds(store: &[u8], used: usize, lengths: Lengths, answer: Result<usize, Error>) -> bool {
+    let mut counts = [165; 8];
+    let mut times = [165; 8];
+    let mut counters = [165; 8];
+    let mut session_ids = [165; 8];
+    let mut local_indices = [165; 8];
+    let mut verdicts = [165; 8];
+    let mut lists = Lists {
+        counts: &mut counts[..lengths.counts.min(8)],
+        times: &mut times[..lengths.times.min(8)],
+        counters: &mut counters[..lengths.counters.min(8)],
+        session_ids: &mut session_ids[..lengths.session_ids.min(8)],
+        local_indices: &mut local_indices[..lengths.local_indices.min(8)],
+        verdicts: &mut verdicts[..lengths.verdicts.min(8)],
+    };
+    let answered = read(store, used, false, &mut lists);
+    let held = Held {
+        counts,
+        times,
+        counters,
+        session_ids,
+        local_indices,
+        verdicts,
+    };
+    answered == answer && held == held_after(answer)
 }
 
 // Writes the log to the front of a store.
@@ -138,115 +86,115 @@ fn append_log(store: &mut [u8]) {
 }
 
 // The log in 256 bytes, one of which is set to 255.
-fn small(at: usize, lent: Lent, answer: usize) -> Tally {
+fn small(at: usize, lengths: Lengths, answer: Result<usize, Error>) -> Tally {
     let mut store = [165u8; 256];
     append_log(&mut store);
     store[at % 256] = 255;
-    case_of(holds(&store, 176, lent, answer))
+    Tally::from(holds(&store, 176, lengths, answer))
 }
 
 // Whether reading the log in so many bytes of a store gives an answer.
-fn sized_holds(store: &mut [u8], size: usize, used: usize, answer: usize) -> bool {
-    let room = at_most(256, store.len());
-    append_log(&mut store[0..room]);
-    let end = at_most(size, store.len());
-    holds(&store[0..end], used, all_of(8), answer)
+fn sized_holds(store: &mut [u8], size: usize, used: usize, answer: Result<usize, Error>) -> bool {
+    let room = store.len().min(256);
+    let end = size.min(store.len());
+    append_log(&mut store[..room]);
+    holds(&store[..end], used, equal(8), answer)
 }
 
 // The log in so many bytes.
-fn sized(size: usize, used: usize, answer: usize) -> Tally {
+fn sized(size: usize, used: usize, answer: Result<usize, Error>) -> Tally {
     let mut store = [165u8; 65537];
-    case_of(sized_holds(&mut store, size, used, answer))
+    Tally::from(sized_holds(&mut store, size, used, answer))
 }
 
 // Used lengths: those of the first callouts are good.
 fn used_lengths() -> Tally {
-    sized(0, 0, 0)
-        .plus(sized(15, 15, NO + 17))
-        .plus(sized(16, 16, NO + 17))
-        .plus(sized(47, 47, NO + 17))
-        .plus(sized(47, 48, NO + 2))
-        .plus(sized(48, 48, 1))
-        .plus(sized(64, 64, 2))
-        .plus(sized(176, 176, 3))
-        .plus(sized(177, 177, NO + 17))
+    sized(0, 0, Ok(0))
+        + sized(15, 15, Err(Error::BrokenTrailer))
+        + sized(16, 16, Err(Error::BrokenTrailer))
+        + sized(47, 47, Err(Error::BrokenTrailer))
+        + sized(47, 48, Err(Error::InvalidArgument))
+        + sized(48, 48, Ok(1))
+        + sized(64, 64, Ok(2))
+        + sized(176, 176, Ok(3))
+        + sized(177, 177, Err(Error::BrokenTrailer))
 }
 
 // Stores of the most bytes, and of one more.
 fn most_bytes() -> Tally {
-    sized(65536, 0, 0)
-        .plus(sized(65536, 176, 3))
-        .plus(sized(65536, 65536, NO + 17))
-        .plus(sized(65536, 65537, NO + 2))
-        .plus(sized(65536, 18446744073709551615, NO + 2))
-        .plus(sized(65537, 0, NO + 2))
-        .plus(sized(65537, 176, NO + 2))
-}
-
-// The answer where so many elements of a list are lent and so many are needed.
-fn answer_for(len: usize, needed: usize) -> usize {
-    if len < needed {
-        return NO + 2;
-    }
-    3
+    sized(65536, 0, Ok(0))
+        + sized(65536, 176, Ok(3))
+        + sized(65536, 65536, Err(Error::BrokenTrailer))
+        + sized(65536, 65537, Err(Error::InvalidArgument))
+        + sized(65536, usize::MAX, Err(Error::InvalidArgument))
+        + sized(65537, 0, Err(Error::InvalidArgument))
+        + sized(65537, 176, Err(Error::InvalidArgument))
 }
 
 // Every length of one list, of which so many elements are needed, beside lists of another length that is enough.
-fn lengths(list: u8, needed: usize, others: usize) -> Tally {
-    let mut tally = no_cases();
-    let mut len = 0usize;
-    while len < 9 {
-        let lent = Lent { list, len, others };
-        tally = tally.plus(small(255, lent, answer_for(len, needed)));
-        len = len + 1;
-    }
-    tally
+fn lengths<L: Fn(usize) -> Lengths>(needed: usize, with: L) -> Tally
+    requires { L.IsAlwaysCallable with }
+{
+    (0..9)
+        .map(|len| {
+            let answer = if len < needed {
+                Err(Error::InvalidArgument)
+            } else {
+                Ok(3)
+            };
+            small(255, with(len), answer)
+        })
+        .sum()
 }
 
 // Every list.
 fn lists(others: usize) -> Tally {
-    lengths(COUNTS, 3, others)
-        .plus(lengths(TIMES, 4, others))
-        .plus(lengths(COUNTERS, 4, others))
-        .plus(lengths(SESSION_IDS, 4, others))
-        .plus(lengths(LOCAL_INDICES, 4, others))
-        .plus(lengths(VERDICTS, 4, others))
+    let others = equal(others);
+    lengths(3, |counts| Lengths { counts, ..others })
+        + lengths(4, |times| Lengths { times, ..others })
+        + lengths(4, |counters| Lengths { counters, ..others })
+        + lengths(
+            4,
+            |session_ids| Lengths {
+                session_ids,
+                ..others
+            },
+        )
+        + lengths(
+            4,
+            |local_indices| Lengths {
+                local_indices,
+                ..others
+            },
+        )
+        + lengths(4, |verdicts| Lengths { verdicts, ..others })
 }
 
 // Each byte from a place to another set to 255, with so much of every list lent.
-fn bytes(from: usize, to: usize, len: usize, number: usize) -> Tally {
-    let mut tally = no_cases();
-    let mut at = from;
-    while at < to {
-        tally = tally.plus(small(at, all_of(len), NO + number % 256));
-        at = at + 1;
-    }
-    tally
+fn bytes(from: usize, to: usize, len: usize, error: Error) -> Tally {
+    (from..to).map(|at| small(at, equal(len), Err(error))).sum()
 }
 
 // The bytes of each trailer.
 fn trailers(len: usize) -> Tally {
-    bytes(32, 64, len, 17).plus(bytes(160, 176, len, 17))
+    bytes(32, 64, len, Error::BrokenTrailer) + bytes(160, 176, len, Error::BrokenTrailer)
 }
 
 // The last byte of the time, the verdict and the zero bytes of each record.
 fn records(len: usize) -> Tally {
-    bytes(7, 8, len, 18)
-        .plus(bytes(28, 32, len, 18))
-        .plus(bytes(71, 72, len, 18))
-        .plus(bytes(92, 96, len, 18))
-        .plus(bytes(103, 104, len, 18))
-        .plus(bytes(124, 128, len, 18))
-        .plus(bytes(135, 136, len, 18))
-        .plus(bytes(156, 160, len, 18))
+    [0, 64, 96, 128]
+        .into_iter()
+        .map(|at| {
+            bytes(at + 7, at + 8, len, Error::BrokenRecord)
+                + bytes(at + 28, at + 32, len, Error::BrokenRecord)
+        })
+        .sum()
 }
 
 // Writes the groups of reading.
 pub fn read_groups<W: Write>(out: &mut W) -> io::Result<()> {
-    used_lengths()
-        .plus(most_bytes())
-        .print(out, b"read, stores")?;
-    lists(4).plus(lists(8)).print(out, b"read, lists")?;
-    trailers(8).plus(trailers(0)).print(out, b"read, trailers")?;
-    records(8).plus(records(0)).print(out, b"read, records")
+    writeln!(out, "read, stores: {}", used_lengths() + most_bytes())?;
+    writeln!(out, "read, lists: {}", lists(4) + lists(8))?;
+    writeln!(out, "read, trailers: {}", trailers(8) + trailers(0))?;
+    writeln!(out, "read, records: {}", records(8) + records(0))
 }

@@ -15,17 +15,19 @@ use Rattle.endian.specs.LittleEndian.{field, from_le_bytes, to_le_bytes, Bytes}
 use Rattle.endian.proofs.Laws.{little_endian_law}
 use Rattle.message.specs.Message.{read_datagram, encrypted_part, encrypted_from, case_data, header, header_answer, header_bytes, message_number, message_values, written_number}
 use Rattle.message.specs.Laws.{Says, Part}
-use Rattle.message.specs.declared.ReceivedMessage.TheVariants.{No, HandshakeInitiation, HandshakeResponse, CookieReply, TransportData}
+use Rattle.error.specs.declared.Error.{Error}
+use Rattle.std.specs.Prelude.{Result, Ok, Err}
+use Rattle.message.specs.declared.ReceivedMessage.TheVariants.{HandshakeInitiation, HandshakeResponse, CookieReply, TransportData}
 use Rattle.message.specs.declared.ReceivedMessage.{ReceivedMessage}
 use Rattle.message.proofs.Reading.{is_data, other}
 
 module _ (bytes : List ℕ) where
   pub answer_good : length bytes ≡ 16 → written_number (header_answer bytes) ≡ 0
-  unfolding header_answer choose written_number
+  unfolding header_answer choose
   answer_good h = rw (eq-eqb (length bytes) 16 h)
 
   pub answer_refused : (length bytes ≡ 16 → ⊥) → written_number (header_answer bytes) ≡ 2
-  unfolding header_answer choose written_number
+  unfolding header_answer choose
   answer_refused h = rw (ne_eqb (length bytes) 16 h)
 
   module _ (receiver counter : ℕ) where
@@ -45,18 +47,18 @@ module _ (bytes : List ℕ) where
 
     -- a header with 16 bytes or more behind it
     module _ (rest : List ℕ) (h : length bytes ≡ 16) (long : 16 ≤ length rest) where
-      read : read_datagram (header receiver counter ++ rest) ≡ TransportData (from_le_bytes (to_le_bytes 4 receiver)) (from_le_bytes (to_le_bytes 8 counter))
+      read : read_datagram (header receiver counter ++ rest) ≡ Ok (TransportData (from_le_bytes (to_le_bytes 4 receiver)) (from_le_bytes (to_le_bytes 8 counter)))
       unfolding header to_le_bytes field from_le_bytes
       read = is_data (header receiver counter ++ rest) (omega arith) refl
 
       pub reads_back : receiver < 4294967296 → counter < 18446744073709551616 → Says (header_bytes bytes receiver counter ++ rest) (4 ∷ receiver ∷ counter ∷ [])
       unfolding message_number message_values
       reads_back r c =
-          let same : read_datagram (header_bytes bytes receiver counter ++ rest) ≡ TransportData receiver counter =
+          let same : read_datagram (header_bytes bytes receiver counter ++ rest) ≡ Ok (TransportData receiver counter) =
           ap (λ (l : List ℕ). read_datagram (l ++ rest)) (bytes_written h)
           ∙ read
-          ∙ ap (λ (n : ℕ). TransportData n (from_le_bytes (to_le_bytes 8 counter))) (little_endian_law.number 4 receiver r)
-          ∙ ap (λ (n : ℕ). TransportData receiver n) (little_endian_law.number 8 counter c) in
+          ∙ ap (λ (n : ℕ). Ok (TransportData n (from_le_bytes (to_le_bytes 8 counter)))) (little_endian_law.number 4 receiver r)
+          ∙ ap (λ (n : ℕ). Ok (TransportData receiver n)) (little_endian_law.number 8 counter c) in
           record { accepted = ap message_number same; said = ap message_values same }
 
       pub part_back : Part (header_bytes bytes receiver counter ++ rest) rest 16
@@ -77,14 +79,14 @@ module _ (message : List ℕ) (b : Bytes message) where
       (sym (take-add 8 8 message ∙ ap (λ (m : List ℕ). m ++ take 8 (drop 8 message)) (take-add 4 4 message)))
 
 -- only a data message has a data message's values
-data_values : (m : ReceivedMessage) (receiver counter : ℕ) → message_values m ≡ 4 ∷ receiver ∷ counter ∷ [] → m ≡ TransportData receiver counter
+data_values : (m : Result ReceivedMessage Error) (receiver counter : ℕ) → message_values m ≡ 4 ∷ receiver ∷ counter ∷ [] → m ≡ Ok (TransportData receiver counter)
 unfolding message_values
-data_values (No number) receiver counter e = absurd (let z : ◌≡◌ {A = ℕ} 0 3 = ap length e in omega arith)
-data_values (HandshakeInitiation sender) receiver counter e = absurd (let z : ◌≡◌ {A = ℕ} 2 3 = ap length e in omega arith)
-data_values (HandshakeResponse sender local) receiver counter e = absurd (let z : ◌≡◌ {A = ℕ} 2 4 = ap (λ (l : List ℕ). get_or l 0 0) e in omega arith)
-data_values (CookieReply local) receiver counter e = absurd (let z : ◌≡◌ {A = ℕ} 2 3 = ap length e in omega arith)
-data_values (TransportData local count) receiver counter e =
-    ap (λ (l : List ℕ). TransportData (get_or l 1 0) (get_or l 2 0)) e
+data_values (Err error) receiver counter e = absurd (let z : ◌≡◌ {A = ℕ} 0 3 = ap length e in omega arith)
+data_values (Ok (HandshakeInitiation sender)) receiver counter e = absurd (let z : ◌≡◌ {A = ℕ} 2 3 = ap length e in omega arith)
+data_values (Ok (HandshakeResponse sender local)) receiver counter e = absurd (let z : ◌≡◌ {A = ℕ} 2 4 = ap (λ (l : List ℕ). get_or l 0 0) e in omega arith)
+data_values (Ok (CookieReply local)) receiver counter e = absurd (let z : ◌≡◌ {A = ℕ} 2 3 = ap length e in omega arith)
+data_values (Ok (TransportData local count)) receiver counter e =
+    ap (λ (l : List ℕ). Ok (TransportData (get_or l 1 0) (get_or l 2 0))) e
 
 -- a data message is long enough and has its type
 long_data : (message : List ℕ) → ◌≡◌ {A = ℕ} (case_data (read_datagram message) 1 0) 1 → (32 ≤ length message) × (field 0 4 message ≡ 4)
@@ -100,13 +102,13 @@ pub begins_with : (message bytes : List ℕ) (receiver counter : ℕ) → Bytes 
     → message ≡ header_bytes bytes receiver counter ++ encrypted_part message
 unfolding case_data encrypted_part message_values
 begins_with message bytes receiver counter b h s =
-    let read : read_datagram message ≡ TransportData receiver counter = data_values (read_datagram message) receiver counter s.said in
+    let read : read_datagram message ≡ Ok (TransportData receiver counter) = data_values (read_datagram message) receiver counter s.said in
     let found : (32 ≤ length message) × (field 0 4 message ≡ 4) = long_data message (rw read) in
-    let fields : TransportData (field 4 4 message) (field 8 8 message) ≡ TransportData receiver counter =
+    let fields : ◌≡◌ {A = Result ReceivedMessage Error} (Ok (TransportData (field 4 4 message) (field 8 8 message))) (Ok (TransportData receiver counter)) =
     sym (is_data message found.0 found.1) ∙ read in
     rw (read, bytes_written bytes receiver counter h)
     (sym (ap (λ (l : List ℕ). l ++ drop 16 message) (headers (field 4 4 message) (field 8 8 message) fields ∙ header_again message b found.0 found.1)
     ∙ take-append-drop 16 message))
   where
-    headers : (r c : ℕ) → TransportData r c ≡ TransportData receiver counter → header receiver counter ≡ header r c
+    headers : (r c : ℕ) → ◌≡◌ {A = Result ReceivedMessage Error} (Ok (TransportData r c)) (Ok (TransportData receiver counter)) → header receiver counter ≡ header r c
     headers r c e = ap (λ (l : List ℕ). header (get_or l 1 0) (get_or l 2 0)) (sym (ap message_values e))

@@ -1,47 +1,48 @@
 -- Datagrams after whitepaper section 5.4, on lists of bytes: what one says, its encrypted part, and the header of a data message.
-use Rattle.std.specs.Prelude.{◌≡◌, List, [], ◌++◌, ◌∷◌, ℕ, ◌+◌, ltb, leb, eqb, length, drop}
+use Rattle.std.specs.Prelude.{◌≡◌, List, [], ◌++◌, ◌∷◌, ℕ, ◌+◌, ltb, leb, eqb, length, drop, Result, Ok, Err}
 use Rattle.std.specs.Borrow.{Bor}
 use Rattle.base.specs.Choice.{choose}
+use Rattle.error.specs.declared.Error.{Error}
+use Rattle.error.specs.declared.Error.TheVariants.{InvalidArgument, UnknownType, WrongLength}
+use Rattle.error.specs.Error.{error_number, verdict_number}
 use Rattle.endian.specs.LittleEndian.{field, to_le_bytes}
-use Rattle.message.specs.declared.ReceivedMessage.TheVariants.{No, HandshakeInitiation, HandshakeResponse, CookieReply, TransportData}
+use Rattle.message.specs.declared.ReceivedMessage.TheVariants.{HandshakeInitiation, HandshakeResponse, CookieReply, TransportData}
 use Rattle.message.specs.declared.ReceivedMessage.{ReceivedMessage}
-use Rattle.message.specs.declared.Written.TheVariants.{Invalid, Done}
-use Rattle.message.specs.declared.Written.{Written}
 
 -- type 1, of 148 bytes: the sender's index
-unfoldable pub read_initiation : List ℕ → ReceivedMessage
-read_initiation bytes = choose (eqb (length bytes) 148) (HandshakeInitiation (field 4 4 bytes)) (No 16)
+unfoldable pub read_initiation : List ℕ → Result ReceivedMessage Error
+read_initiation bytes = choose (eqb (length bytes) 148) (Ok (HandshakeInitiation (field 4 4 bytes))) (Err WrongLength)
 
 -- type 2, of 92 bytes: the sender's and the receiver's index
-unfoldable pub read_response : List ℕ → ReceivedMessage
-read_response bytes = choose (eqb (length bytes) 92) (HandshakeResponse (field 4 4 bytes) (field 8 4 bytes)) (No 16)
+unfoldable pub read_response : List ℕ → Result ReceivedMessage Error
+read_response bytes = choose (eqb (length bytes) 92) (Ok (HandshakeResponse (field 4 4 bytes) (field 8 4 bytes))) (Err WrongLength)
 
 -- type 3, of 64 bytes: the receiver's index
-unfoldable pub read_cookie_reply : List ℕ → ReceivedMessage
-read_cookie_reply bytes = choose (eqb (length bytes) 64) (CookieReply (field 4 4 bytes)) (No 16)
+unfoldable pub read_cookie_reply : List ℕ → Result ReceivedMessage Error
+read_cookie_reply bytes = choose (eqb (length bytes) 64) (Ok (CookieReply (field 4 4 bytes))) (Err WrongLength)
 
 -- type 4, of 32 bytes or more: the receiver's index and the counter
-unfoldable pub read_data : List ℕ → ReceivedMessage
-read_data bytes = choose (leb 32 (length bytes)) (TransportData (field 4 4 bytes) (field 8 8 bytes)) (No 16)
+unfoldable pub read_data : List ℕ → Result ReceivedMessage Error
+read_data bytes = choose (leb 32 (length bytes)) (Ok (TransportData (field 4 4 bytes) (field 8 8 bytes))) (Err WrongLength)
 
 -- what a datagram says: its first four bytes are its type
-unfoldable pub read_datagram : List ℕ → ReceivedMessage
+unfoldable pub read_datagram : List ℕ → Result ReceivedMessage Error
 read_datagram bytes =
-    choose (ltb (length bytes) 4) (No 16)
+    choose (ltb (length bytes) 4) (Err WrongLength)
     (choose (eqb (field 0 4 bytes) 1) (read_initiation bytes)
     (choose (eqb (field 0 4 bytes) 2) (read_response bytes)
     (choose (eqb (field 0 4 bytes) 3) (read_cookie_reply bytes)
     (choose (eqb (field 0 4 bytes) 4) (read_data bytes)
-    (No 15)))))
+    (Err UnknownType)))))
 
 module _ {A : Type 0} where
   -- one value for a data message, and another for all else
-  unfoldable pub case_data : ReceivedMessage → A → A → A
-  case_data (No number) x y = y
-  case_data (HandshakeInitiation sender) x y = y
-  case_data (HandshakeResponse sender receiver) x y = y
-  case_data (CookieReply receiver) x y = y
-  case_data (TransportData receiver counter) x y = x
+  unfoldable pub case_data : Result ReceivedMessage Error → A → A → A
+  case_data (Err error) x y = y
+  case_data (Ok (HandshakeInitiation sender)) x y = y
+  case_data (Ok (HandshakeResponse sender receiver)) x y = y
+  case_data (Ok (CookieReply receiver)) x y = y
+  case_data (Ok (TransportData receiver counter)) x y = x
 
 -- the bytes after the header of a data message, and none of anything else
 unfoldable pub encrypted_part : List ℕ → List ℕ
@@ -62,35 +63,26 @@ unfoldable pub header : (receiver counter : ℕ) → List ℕ
 header receiver counter = to_le_bytes 4 4 ++ to_le_bytes 4 receiver ++ to_le_bytes 8 counter
 
 -- what writing a header answers: 16 bytes are asked for
-unfoldable pub header_answer : List ℕ → Written
-header_answer bytes = choose (eqb (length bytes) 16) Done Invalid
+unfoldable pub header_answer : List ℕ → Result Unit Error
+header_answer bytes = choose (eqb (length bytes) 16) (Ok tt) (Err InvalidArgument)
 
 -- the bytes that writing a header leaves
 unfoldable pub header_bytes : List ℕ → (receiver counter : ℕ) → List ℕ
 header_bytes bytes receiver counter = choose (eqb (length bytes) 16) (header receiver counter) bytes
 
--- What writing a header into lent bytes does: its answer, and the bytes it leaves.
-pub record WritesHeader (bytes left : List ℕ) (receiver counter : ℕ) (r : Written) : Type 0 where
-  pub answer : r ≡ header_answer bytes
-  pub written : left ≡ header_bytes bytes receiver counter
-
 -- the number that turns a datagram away, or 0
-unfoldable pub message_number : ReceivedMessage → ℕ
-message_number (No number) = number
-message_number (HandshakeInitiation sender) = 0
-message_number (HandshakeResponse sender receiver) = 0
-message_number (CookieReply receiver) = 0
-message_number (TransportData receiver counter) = 0
+unfoldable pub message_number : Result ReceivedMessage Error → ℕ
+message_number (Err error) = error_number error
+message_number (Ok message) = 0
 
 -- the values of a datagram: its type, then its indices and counter; none of one turned away
-unfoldable pub message_values : ReceivedMessage → List ℕ
-message_values (No number) = []
-message_values (HandshakeInitiation sender) = 1 ∷ sender ∷ []
-message_values (HandshakeResponse sender receiver) = 2 ∷ sender ∷ receiver ∷ []
-message_values (CookieReply receiver) = 3 ∷ receiver ∷ []
-message_values (TransportData receiver counter) = 4 ∷ receiver ∷ counter ∷ []
+unfoldable pub message_values : Result ReceivedMessage Error → List ℕ
+message_values (Err error) = []
+message_values (Ok (HandshakeInitiation sender)) = 1 ∷ sender ∷ []
+message_values (Ok (HandshakeResponse sender receiver)) = 2 ∷ sender ∷ receiver ∷ []
+message_values (Ok (CookieReply receiver)) = 3 ∷ receiver ∷ []
+message_values (Ok (TransportData receiver counter)) = 4 ∷ receiver ∷ counter ∷ []
 
 -- the number that turns the writing of a header down, or 0
-unfoldable pub written_number : Written → ℕ
-written_number Invalid = 2
-written_number Done = 0
+abbrev pub written_number : Result Unit Error → ℕ
+written_number answer = verdict_number answer

@@ -1,83 +1,65 @@
-// The answers about datagrams, in text.
+// The lines about datagrams.
+use crate::answer::{put_bytes, put_words};
+use crate::words::{BYTES, Words};
+use error::Error;
 use message::{
-    COOKIE_REPLY, DATA, HANDSHAKE_INIT, HANDSHAKE_RESP, ReceivedMessage, Written, encrypted_part,
+    COOKIE_REPLY, DATA, HANDSHAKE_INIT, HANDSHAKE_RESP, ReceivedMessage, encrypted_part,
     read_datagram, write_header,
 };
-use text::hex::put_hex;
-use text::text::{put, put_number, put_text};
+use text::text::Output;
 
-// Puts the number that turns a call down.
-pub fn put_no(out: &mut [u8], at: usize, number: u8) -> usize {
-    let next = put_text(out, at, b"no");
-    put_number(out, next, number as u64)
-}
-
-// Puts the type of a datagram and its first index.
-fn put_type(out: &mut [u8], at: usize, message_type: u32, index: u32) -> usize {
-    let next = put_text(out, at, b"ok type");
-    let second = put_number(out, next, message_type as u64);
-    put_number(out, second, index as u64)
-}
-
-// Puts what a handshake response says.
-fn put_response(out: &mut [u8], at: usize, sender_idx: u32, receiver_idx: u32) -> usize {
-    let next = put_type(out, at, HANDSHAKE_RESP, sender_idx);
-    put_number(out, next, receiver_idx as u64)
-}
-
-// Puts what a data message says, and its encrypted part.
-fn put_data(out: &mut [u8], at: usize, receiver_idx: u32, counter: u64, part: &[u8]) -> usize {
-    let next = put_type(out, at, DATA, receiver_idx);
-    let second = put_number(out, next, counter);
-    let third = put(out, second, b' ');
-    put_hex(out, third, part)
+// Puts the type of a datagram and the numbers that it says.
+fn put_type(out: &mut Output, message_type: u32, index: u32) {
+    put_words(
+        out,
+        b"ok type",
+        &[u64::from(message_type), u64::from(index)],
+    );
 }
 
 // Puts what a datagram with this encrypted part says.
-fn put_message(out: &mut [u8], at: usize, said: ReceivedMessage, part: &[u8]) -> usize {
-    match said {
-        ReceivedMessage::No(number) => put_no(out, at, number),
+fn put_message(out: &mut Output, message: ReceivedMessage, part: &[u8]) {
+    match message {
         ReceivedMessage::HandshakeInitiation { sender_idx } => {
-            put_type(out, at, HANDSHAKE_INIT, sender_idx)
+            put_type(out, HANDSHAKE_INIT, sender_idx)
         }
         ReceivedMessage::HandshakeResponse {
             sender_idx,
             receiver_idx,
-        } => put_response(out, at, sender_idx, receiver_idx),
+        } => {
+            put_type(out, HANDSHAKE_RESP, sender_idx);
+            out.put_number(u64::from(receiver_idx));
+        }
         ReceivedMessage::CookieReply { receiver_idx } => {
-            put_type(out, at, COOKIE_REPLY, receiver_idx)
+            put_type(out, COOKIE_REPLY, receiver_idx)
         }
         ReceivedMessage::TransportData {
             receiver_idx,
             counter,
-        } => put_data(out, at, receiver_idx, counter, part),
+        } => {
+            put_type(out, DATA, receiver_idx);
+            out.put_number(counter);
+            out.put(b' ');
+            out.put_hex(part);
+        }
     }
 }
 
-// Puts what a datagram says.
-fn put_read(out: &mut [u8], at: usize, datagram: &[u8]) -> usize {
-    put_message(out, at, read_datagram(datagram), encrypted_part(datagram))
+// Reads a datagram.
+pub(crate) fn datagram(words: Words, out: &mut Output) -> Result<(), Error> {
+    let mut bytes = [0u8; BYTES];
+    let len = words.last_bytes(&mut bytes)?;
+    let datagram = &bytes[..len];
+    put_message(out, read_datagram(datagram)?, encrypted_part(datagram));
+    Ok(())
 }
 
-// Puts what the datagram in a list's first bytes says.
-pub fn put_datagram(out: &mut [u8], at: usize, len: usize, bytes: &[u8]) -> usize {
-    if len > bytes.len() {
-        return put_read(out, at, bytes);
-    }
-    put_read(out, at, &bytes[..len])
-}
-
-// Puts bytes.
-pub fn put_bytes(out: &mut [u8], at: usize, bytes: &[u8]) -> usize {
-    let next = put_text(out, at, b"ok bytes ");
-    put_hex(out, next, bytes)
-}
-
-// Puts the header of a data message.
-pub fn put_header(out: &mut [u8], at: usize, receiver: u32, counter: u64) -> usize {
+// Writes the header of a data message.
+pub(crate) fn header(mut words: Words, out: &mut Output) -> Result<(), Error> {
+    let receiver = words.index()?;
+    let counter = words.last_number()?;
     let mut header = [0u8; 16];
-    match write_header(&mut header, receiver, counter) {
-        Written::Invalid => put_text(out, at, b"no 2"),
-        Written::Done => put_bytes(out, at, &header),
-    }
+    write_header(&mut header, receiver, counter)?;
+    put_bytes(out, &header);
+    Ok(())
 }

@@ -1,13 +1,11 @@
-// The lines of the program drive: read, made into calls, and answered in text. Functions on slices; no input or output.
+// The lines of the program drive: each is read, its call is made, and the answer is put into the output. No input or output of its own.
 #![tactic(auto)]
 
-pub mod answer;
-pub mod call;
-pub mod datagram;
-pub mod line;
-pub mod log_line;
-pub mod messages;
-pub mod name;
-pub mod numbers;
-pub mod reports;
-pub mod skips;
+mod answer;
+mod batch;
+mod datagram;
+mod log;
+mod reports;
+mod skips;
+pub mod state;
+mod words;

@@ -3,7 +3,6 @@
 use Rattle.std.proofs.Common.{◌≡◌, ℕ, zero, suc, ◌%◌, ◌<◌, ◌≤◌, Bool, true, false, eqb, List, length, get_or, set, sym, refl, ap, ◌∙◌, arith, get_or-set_other, eqb-true}
 use Rattle.base.specs.Choice.{choose}
 use Rattle.sessions.specs.declared.session.Session.{Session}
-use Rattle.sessions.specs.declared.sessions.Found.TheVariants.{Nothing}
 use Rattle.sessions.specs.declared.sessions.Sessions.{Sessions}
 use Rattle.sessions.specs.declared.sessions.Expired.{Expired}
 use Rattle.sessions.specs.Index.{slot_of}
@@ -13,6 +12,7 @@ use Rattle.sessions.specs.Session.{empty_session, with_id}
 use Rattle.sessions.specs.Sessions.{expiring, slot_at, put, emptied, inserting, insert, is_index, discard, expired_slot, Expiring, expire_slot, expire_first, expire}
 use Rattle.sessions.specs.Laws.{Kept}
 use Rattle.sessions.proofs.Words.{length_put, slot_other}
+use Rattle.std.specs.Prelude.{None}
 
 -- a slot that nothing was done to
 pub kept_same : (s : Sessions) (store : List ℕ) (slot : ℕ) → Kept s s store store slot
@@ -90,6 +90,6 @@ module _ (s : Sessions) (store : List ℕ) (slot now : ℕ) (due : expired_slot 
   kept_expire = go (eqb (length store) 1024) refl
     where
       go : (b : Bool) → eqb (length store) 1024 ≡ b → Kept s (expire s store now).expired.sessions store (expire s store now).store slot
-      go true e = rw e (stays_first (expiring (record { sessions = s; current = Nothing }) store) 8 (omega arith)
+      go true e = rw e (stays_first (expiring (record { sessions = s; current = None }) store) 8 (omega arith)
           (record { kept = kept_same s store slot; size = eqb-true (length store) 1024 e })).kept
       go false e = rw e (kept_same s store slot)

@@ -2,20 +2,16 @@
 -- Assumes nothing.
 use Rattle.std.proofs.Common.{◌≡◌, ℕ, ◌+◌, ◌/◌, ◌%◌, Bool, true, false, eqb, sym, refl, ap, ◌∙◌, arith, eq-eqb, eqb-true}
 use borrow.Author.Tests.{eqb-false}
-use Rattle.base.specs.Choice.{choose}
+use Rattle.base.specs.Choice.{choose, case_option}
 use Rattle.sessions.specs.declared.session.Session.{Session}
 use Rattle.sessions.specs.declared.sessions.Ahead.{Ahead}
-use Rattle.sessions.specs.declared.sessions.Found.{Found}
-use Rattle.sessions.specs.declared.sessions.Found.TheVariants.{Nothing, Got}
-use Rattle.sessions.specs.declared.sessions.Selected.{Selected}
-use Rattle.sessions.specs.declared.sessions.Selected.TheVariants.{Unset, Index}
 use Rattle.sessions.specs.declared.sessions.Sessions.{Sessions}
 use Rattle.sessions.specs.Index.{slot_of, wrapping_increment}
-use Rattle.sessions.specs.Cases.{case_found, case_selected}
 use Rattle.sessions.specs.Laws.{InSlot, SlotTaken}
 use Rattle.sessions.specs.Sessions.{get, current_of, in_current_slot, told, ahead}
 use Rattle.sessions.proofs.Lookups.{got_slot}
 use Rattle.sessions.proofs.Usable.{in_got}
+use Rattle.std.specs.Prelude.{None, Option, Some}
 
 -- the following number: its slot, its low byte and its upper bits
 record Following (i j : ℕ) : Type 0 where
@@ -32,12 +28,12 @@ module _ (s : Sessions) where
   first = wrapping_increment s.last_index
 
   -- whether the following number has the slot of the session with the selected index, which fills its slot
-  current_is : (index : ℕ) (x : Session) → s.current ≡ Index index → InSlot s index x → current_of s ≡ Got x
-  unfolding current_of case_selected
-  current_is index x c i = ap (λ (selected : Selected). case_selected selected Nothing (λ (k : ℕ). get s k)) c ∙ in_got s index x i
+  current_is : (index : ℕ) (x : Session) → s.current ≡ Some index → InSlot s index x → current_of s ≡ Some x
+  unfolding current_of case_option
+  current_is index x c i = ap (λ (selected : Option ℕ). case_option selected None (λ (k : ℕ). get s k)) c ∙ in_got s index x i
 
-  tested : (index : ℕ) (x : Session) → s.current ≡ Index index → InSlot s index x → in_current_slot s first ≡ eqb (slot_of index) (slot_of first)
-  unfolding in_current_slot case_found
+  tested : (index : ℕ) (x : Session) → s.current ≡ Some index → InSlot s index x → in_current_slot s first ≡ eqb (slot_of index) (slot_of first)
+  unfolding in_current_slot case_option
   tested index x c i = rw (current_is index x c i, i.named) refl
 
   taken_tested : (index : ℕ) (x : Session) → SlotTaken s index x → in_current_slot s first ≡ true
@@ -46,11 +42,11 @@ module _ (s : Sessions) where
 
   -- it has not where no such session has it
   module _ (none : (index : ℕ) (x : Session) → SlotTaken s index x → ⊥) where
-    selected_none : (selected : Selected) (x : Session) → s.current ≡ selected → case_selected selected Nothing (λ (i : ℕ). get s i) ≡ Got x
+    selected_none : (selected : Option ℕ) (x : Session) → s.current ≡ selected → case_option selected None (λ (i : ℕ). get s i) ≡ Some x
         → eqb (slot_of x.receiving_index) (slot_of first) ≡ true → ⊥
-    unfolding case_selected
-    selected_none Unset x c e t = let z : ◌≡◌ {A = ℕ} 0 1 = cc in absurd (omega arith)
-    selected_none (Index index) x c e t =
+    unfolding case_option
+    selected_none None x c e t = let z : ◌≡◌ {A = ℕ} 0 1 = cc in absurd (omega arith)
+    selected_none (Some index) x c e t =
         let i : InSlot s index x = got_slot s index x e in
         none index x
         (record {
@@ -59,12 +55,12 @@ module _ (s : Sessions) where
           following = ap slot_of (sym i.named) ∙ eqb-true (slot_of x.receiving_index) (slot_of first) t ∙ (following s.last_index).slot;
         })
 
-    found_none : (found : Found) (b : Bool) → current_of s ≡ found
-        → case_found found false (λ (x : Session). eqb (slot_of x.receiving_index) (slot_of first)) ≡ b → b ≡ false
-    unfolding current_of case_found
+    found_none : (found : Option Session) (b : Bool) → current_of s ≡ found
+        → case_option found false (λ (x : Session). eqb (slot_of x.receiving_index) (slot_of first)) ≡ b → b ≡ false
+    unfolding current_of case_option
     found_none found false e t = refl
-    found_none Nothing true e t = sym t
-    found_none (Got x) true e t = absurd (selected_none s.current x refl e t)
+    found_none None true e t = sym t
+    found_none (Some x) true e t = absurd (selected_none s.current x refl e t)
 
     none_tested : in_current_slot s first ≡ false
     unfolding in_current_slot
@@ -97,7 +93,7 @@ module _ (s : Sessions) where
       rw (tells_two e) (record { low = omega (arith, f.low, g.low); upper = g.upper ∙ f.upper })
   moves false e = let f = following s.last_index in rw (tells_one e) (record { low = f.low; upper = f.upper })
 
-  pub other_slot : (b : Bool) → in_current_slot s first ≡ b → (index : ℕ) (x : Session) → s.current ≡ Index index → InSlot s index x
+  pub other_slot : (b : Bool) → in_current_slot s first ≡ b → (index : ℕ) (x : Session) → s.current ≡ Some index → InSlot s index x
       → (ahead s).index % 8 ≡ index % 8 → ⊥
   other_slot true e index x c i =
       let here : slot_of index ≡ slot_of first = eqb-true (slot_of index) (slot_of first) (sym (tested index x c i) ∙ e) in

@@ -3,7 +3,7 @@
 use Rattle.std.proofs.Common.{◌≡◌, ℕ, ◌+◌, ◌<◌, ◌≤◌, eqb, List, length, get_or, sym, refl, ap, ◌∙◌, true≢false, arith}
 use Rattle.base.proofs.Counting.{up_from-at}
 use Rattle.base.specs.Bits.{bit}
-use Rattle.base.specs.Choice.{choose}
+use Rattle.base.specs.Choice.{choose, case_option, case_result}
 use Rattle.base.specs.Lists.{zeros}
 use Rattle.base.specs.Sums.{sum}
 use Rattle.window.specs.Window.{limit, bit_at, check_bit}
@@ -12,10 +12,8 @@ use Rattle.sessions.specs.Laws.{SlotsApart, NextIndexLaw, NextIndexExample, sele
 use Rattle.sessions.specs.declared.batch.Progress.{Progress}
 use Rattle.sessions.specs.Reservations.{granted, ReservationLaw}
 use Rattle.sessions.specs.Index.{slot_of, wrapping_increment}
-use Rattle.sessions.specs.Cases.{case_found, case_selected}
 use Rattle.sessions.specs.Sessions.{new_sessions, empty_slots, in_slot_of, get, put, current_of, in_current_slot, ahead, next_index, select, emptied, missing}
 use Rattle.sessions.specs.Store.{slot_words, missing_of}
-use Rattle.sessions.specs.declared.sessions.Missing.TheVariants.{Count}
 use Rattle.sessions.specs.declared.session.Session.{Session}
 use Rattle.sessions.specs.declared.sessions.Sessions.{Sessions}
 use Rattle.sessions.proofs.Apart.{kept_insert, kept_expire}
@@ -23,7 +21,7 @@ use Rattle.sessions.proofs.Indices.{first, tries_two, tries_one, moves, other_sl
 use Rattle.sessions.proofs.Heard.{heard_by, in_heard, none_heard}
 use Rattle.sessions.proofs.Lookups.{got_slot, current_slot, received_slot}
 use Rattle.sessions.proofs.Looks.{look_numbers}
-use Rattle.sessions.proofs.Loops.{expire_none}
+use Rattle.sessions.proofs.Slots.{expire_none}
 use Rattle.sessions.proofs.Received.{batch_within, kept_receive}
 use Rattle.sessions.proofs.Missing.{missing_rest, missing_own, missing_found, missing_none}
 use Rattle.sessions.proofs.Reservations.{Counts, counts_all}
@@ -33,6 +31,7 @@ use Rattle.sessions.proofs.Turned.{fits_batch, batch_fits, rejected, empty_leave
 use Rattle.sessions.proofs.Usable.{sending_may, may_sending, in_received, reserve_grants, reserve_refuses, cut_empty, cut_nowhere, cut_beyond, cut_good, cut_whole, cut_parts}
 use Rattle.sessions.specs.declared.range.Range.{Range}
 use Rattle.sessions.specs.Session.{new_session, empty_session}
+use Rattle.std.specs.Prelude.{Ok}
 
 -- the counters that a session grants
 pub reservation_law : (s : Session) (lens : List ℕ) → s.sending_key_counter ≡ 0 → ReservationLaw s lens
@@ -69,7 +68,7 @@ next_index_law s =
     }
 
 pub next_index_example : NextIndexExample
-unfolding selecting new_session empty_session new_sessions empty_slots put select emptied in_slot_of get current_of in_current_slot ahead wrapping_increment case_found case_selected choose
+unfolding selecting new_session empty_session new_sessions empty_slots put select emptied in_slot_of get current_of in_current_slot ahead wrapping_increment case_option choose
 next_index_example =
     record {
       taken = record { selected = refl; there = record { stored = refl; filled = refl; named = refl }; following = refl };
@@ -87,7 +86,7 @@ pub empty_law : EmptyLaw
 unfolding empty_session
 empty_law = record { unfilled = λ x e f. true≢false (sym f ∙ rw e) }
 
--- what the lookups find
+-- what the cases find
 pub lookup_law : (s : Sessions) → LookupLaw s
 lookup_law s =
     record {
@@ -178,13 +177,14 @@ missing_law s store index x i l =
       together = missing_rest (slot_words store (slot_of index)) x.next;
       fresh = λ z. omega (arith, missing_rest (slot_words store (slot_of index)) x.next);
       own = λ other m same.
-          missing_found s index x i other m ∙ ap Count (missing_own (slot_words store (slot_of index)) (slot_words other (slot_of index)) x.next same)
+          missing_found s index x i other m ∙ ap Ok (missing_own (slot_words store (slot_of index)) (slot_words other (slot_of index)) x.next same)
           ∙ sym (missing_found s index x i store l);
     }
 
 pub no_report_law : (s : Sessions) (store : List ℕ) (index : ℕ) → ((x : Session) → InSlot s index x → ⊥) → length store ≡ 1024 → NoReportLaw s store index
-no_report_law s store index none l = record { number = missing_none s store index none l }
+unfolding case_result
+no_report_law s store index none l = record { number = rw (missing_none s store index none l) refl }
 
 pub missing_example : MissingExample
-unfolding with70 store70 expects70 new_session empty_session new_sessions empty_slots put zeros in_slot_of get missing missing_of slot_words check_bit bit_at bit sum case_found choose
+unfolding with70 store70 expects70 new_session empty_session new_sessions empty_slots put zeros in_slot_of get missing missing_of slot_words check_bit bit_at bit sum case_option choose
 missing_example = record { held = record { stored = refl; filled = refl; named = refl }; size = refl; report = refl }

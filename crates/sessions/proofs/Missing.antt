@@ -1,39 +1,31 @@
 -- The missing count of a window: its counters less those whose bit is set, which are the ones of whole words and of a part of one.
 -- Assumes nothing.
-use Rattle.std.proofs.Common.{◌≡◌, ℕ, ◌+◌, ◌-◌, ◌*◌, ◌/◌, ◌%◌, ◌^◌, ◌<◌, ◌≤◌, min, eqb, List, length, get_or, take, drop, refl, ap, ◌∙◌, arith, pow_pos, shl_exact, eq-eqb, ne_eqb}
+use Rattle.std.proofs.Common.{◌≡◌, ℕ, ◌+◌, ◌-◌, ◌*◌, ◌/◌, ◌%◌, ◌^◌, ◌<◌, ◌≤◌, min, eqb, List, length, sum_by, get_or, take, refl, ap, arith, shl_exact, eq-eqb, ne_eqb, Fits, w64}
 use native.Mathlib.Decide.{ℕ_discrete}
-use lib.Bits.{bit_and}
+use lib.Bits.{and_mask, bit_and}
 use lib.Count.{ones}
-use Rattle.base.specs.Bits.{bit}
-use Rattle.base.specs.Choice.{choose}
+use Rattle.std.proofs.lemmas.List.Recursion.{is_sum_by}
+use Rattle.base.specs.Choice.{choose, case_option}
 use Rattle.base.specs.Lists.{ones_of}
 use Rattle.base.specs.Sums.{sum}
 use Rattle.base.proofs.Bits.{bit_small}
 use Rattle.base.proofs.Sums.{Fitting, sum_cong, sum_parted, ones_first, ones_cycled, ones_before}
-use Rattle.sessions.specs.Cases.{case_found}
 use Rattle.sessions.specs.Index.{slot_of}
 use Rattle.sessions.specs.Laws.{InSlot}
 use Rattle.sessions.specs.Sessions.{get, missing}
-use Rattle.sessions.specs.Store.{slot_words, Counted, missing_of}
+use Rattle.sessions.specs.Store.{slot_words, missing_of}
 use Rattle.sessions.specs.declared.session.Session.{Session}
-use Rattle.sessions.specs.declared.sessions.Found.{Found}
-use Rattle.sessions.specs.declared.sessions.Found.TheVariants.{Nothing, Got}
-use Rattle.sessions.specs.declared.sessions.Missing.TheVariants.{Refused, Count}
 use Rattle.sessions.specs.declared.sessions.Sessions.{Sessions}
 use Rattle.sessions.proofs.Lookups.{got_slot}
 use Rattle.sessions.proofs.Usable.{in_got}
 use Rattle.window.specs.Window.{word_of, bit_of, bit_at, check_bit}
+use Rattle.std.specs.Prelude.{Err, None, Ok, Option, Some}
+use Rattle.error.specs.declared.Error.TheVariants.{NoCurrentSession}
 
--- a mask of the first ones
-module _ (place : ℕ) (h : place < 64) where
-  one_shifted : (1 * 2 ^ place) % 2 ^ 64 ≡ 2 ^ place
-  one_shifted = shl_exact 1 place 64 (omega arith) (omega arith) ∙ omega arith
-
-  pub mask_some : 1 ≤ (1 * 2 ^ place) % 2 ^ 64
-  mask_some = omega (arith, one_shifted, pow_pos place)
-
-  pub masked_ones : (w n : ℕ) → n ≡ ones (bit_and w ((1 * 2 ^ place) % 2 ^ 64 - 1)) → n ≡ sum (bit w) place
-  masked_ones w n e = e ∙ rw one_shifted (ones_first w place)
+-- the ones of words, as the library sums them
+ones_summed : (words : List ℕ) → ones_of words ≡ sum_by ones words
+unfolding ones_of
+ones_summed = is_sum_by ones_of ones refl (λ w rest. refl)
 
 module _ (words : List ℕ) where
   small : (c : ℕ) → bit_at words c < 2
@@ -62,33 +54,45 @@ module _ (words : List ℕ) where
       let size : min next 8192 ≡ next = omega arith in
       rw size (sum_cong (λ k. bit_at words (next - 8192 + k)) (bit_at words) next (λ k l. ap (bit_at words) (omega arith)))
 
-  pub missing_young : (next n : ℕ) → next < 8192 → n ≡ sum (bit_at words) next → next - n ≡ missing_of words next
-  missing_young next n h e = omega (arith, missing_rest next, young next h)
+  -- the code's counts make up the window with what is missing
+  module _ (long : length words ≡ 128) (words_fit : (j : ℕ) → Fits w64 (get_or words j 0)) (next : ℕ) where
+    fits : Fitting words
+    fits j = (words_fit j).fits
 
-  module _ (long : length words ≡ 128) (fits : Fitting words) where
-    pub missing_full : (next n : ℕ) → 8192 ≤ next → Counted words n → 8192 - n ≡ missing_of words next
+    pub window_full : 8192 ≤ next → sum_by ones words + missing_of words next ≡ 8192
     unfolding bit_at
-    missing_full next n h counted =
+    window_full h =
         let size : min next 8192 ≡ 8192 = omega arith in
-        omega (arith, missing_rest next, ap (sum (λ k. bit_at words (next - 8192 + k))) size, ones_cycled words long fits (next - 8192), counted.out)
+        omega (
+          arith,
+          missing_rest next,
+          ap (sum (λ k. bit_at words (next - 8192 + k))) size,
+          ones_cycled words long fits (next - 8192),
+          ones_summed words,
+        )
+
+    -- the bits of the next counter's own word below its place
+    abbrev below : ℕ
+    below = 1 * 2 ^ (next % 64) % 2 ^ 64 - 1
+
+    below_is : below ≡ 2 ^ (next % 64) - 1
+    below_is =
+        omega (arith, shl_exact {a = 1} 1 (next % 64) 64 (omega arith) (omega arith))
 
     -- the ones of the words before the next counter's own and of a part of its own
-    module _ (next word place n m : ℕ) (h : next < 8192) (w : word ≡ next / 64) (p : place ≡ next % 64)
-        (counted : Counted (take (word - 0) (drop 0 words)) n) (part : m ≡ sum (bit (get_or words word 0)) place) where
-      pub committed_sum : n + m ≡ sum (bit_at words) next
-      unfolding bit_at
-      committed_sum =
-          let size : word - 0 ≡ next / 64 = omega arith in
-          omega (
-            arith,
-            counted.out,
-            ap (λ (x : ℕ). ones_of (take x words)) size,
-            part ∙ ap (sum (bit (get_or words word 0))) p ∙ ap (λ (x : ℕ). sum (bit (get_or words x 0)) (next % 64)) w,
-            ones_before words long fits next h,
-          )
-
-      pub committed_most : n + m ≤ next
-      committed_most = omega (arith, committed_sum, stretch (next - 8192) (min next 8192), young next h)
+    pub window_young : (word place : ℕ) → word ≡ next / 64 → place ≡ next % 64 → next < 8192
+        → sum_by ones (take word words) + ones (bit_and (get_or words word 0) (1 * 2 ^ place % 2 ^ 64 - 1)) + missing_of words next ≡ next
+    unfolding bit_at
+    window_young word place e f h =
+        rw (e, f, below_is)
+        (omega (
+          arith,
+          missing_rest next,
+          young next h,
+          ones_before words long fits next h,
+          ones_first (get_or words (next / 64) 0) (next % 64),
+          ones_summed (take (next / 64) words),
+        ))
 
 -- only the bits of the window's counters are looked at
 pub missing_own : (words other : List ℕ) (next : ℕ)
@@ -100,16 +104,16 @@ missing_own words other next same =
 
 -- the report of a session in its slot
 module _ (s : Sessions) (index : ℕ) (x : Session) (i : InSlot s index x) where
-  pub missing_found : (store : List ℕ) → length store ≡ 1024 → missing s store index ≡ Count (missing_of (slot_words store (slot_of index)) x.next)
-  unfolding missing case_found choose
+  pub missing_found : (store : List ℕ) → length store ≡ 1024 → missing s store index ≡ Ok (missing_of (slot_words store (slot_of index)) x.next)
+  unfolding missing case_option choose
   missing_found store l = rw (eq-eqb (length store) 1024 l, in_got s index x i, i.named) refl
 
 -- no report
-pub missing_none : (s : Sessions) (store : List ℕ) (index : ℕ) → ((x : Session) → InSlot s index x → ⊥) → length store ≡ 1024 → missing s store index ≡ Refused 12
-unfolding missing case_found choose
+pub missing_none : (s : Sessions) (store : List ℕ) (index : ℕ) → ((x : Session) → InSlot s index x → ⊥) → length store ≡ 1024 → missing s store index ≡ Err NoCurrentSession
+unfolding missing case_option choose
 missing_none s store index none l = rw (eq-eqb (length store) 1024 l) (by_found (get s index) refl)
   where
-    by_found : (found : Found) → get s index ≡ found
-        → case_found found (Refused 12) (λ x. Count (missing_of (slot_words store (slot_of x.receiving_index)) x.next)) ≡ Refused 12
-    by_found Nothing e = refl
-    by_found (Got x) e = absurd (none x (got_slot s index x e))
+    by_found : (found : Option Session) → get s index ≡ found
+        → case_option found (Err NoCurrentSession) (λ x. Ok (missing_of (slot_words store (slot_of x.receiving_index)) x.next)) ≡ Err NoCurrentSession
+    by_found None e = refl
+    by_found (Some x) e = absurd (none x (got_slot s index x e))

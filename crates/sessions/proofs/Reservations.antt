@@ -1,12 +1,11 @@
 -- The counters that a session grants, one reservation after the other, count up from its send counter and end at LIMIT at most.
 -- Assumes nothing.
 use Rattle.std.proofs.Common.{◌≡◌, ℕ, ◌+◌, ◌≤◌, Bool, true, false, leb, List, [], ◌∷◌, ◌++◌, length, sym, refl, ap, ◌∙◌, arith, length-append, leb-true}
-use Rattle.base.specs.Choice.{choose}
+use Rattle.base.specs.Choice.{choose, case_pair}
 use Rattle.base.specs.Lists.{up_from}
 use Rattle.base.proofs.Counting.{length-up_from, join-up_from}
 use Rattle.window.specs.Window.{limit}
 use Rattle.sessions.specs.declared.session.Session.{Session}
-use Rattle.sessions.specs.Cases.{case_reserved}
 use Rattle.sessions.specs.Session.{with_counter, reserve_counters}
 use Rattle.sessions.specs.Reservations.{granted}
 
@@ -17,11 +16,11 @@ onward s len = with_counter s (s.sending_key_counter + len)
 module _ (s : Session) (len : ℕ) (lens : List ℕ) where
   grants : leb (s.sending_key_counter + len) limit ≡ true
       → granted s (len ∷ lens) ≡ up_from s.sending_key_counter len ++ granted (onward s len) lens
-  unfolding granted case_reserved reserve_counters choose
+  unfolding granted case_pair reserve_counters choose
   grants e = rw e
 
   refuses : leb (s.sending_key_counter + len) limit ≡ false → granted s (len ∷ lens) ≡ granted s lens
-  unfolding granted case_reserved reserve_counters choose
+  unfolding granted case_pair reserve_counters choose
   refuses e = rw e
 
 -- what is granted counts up from the send counter

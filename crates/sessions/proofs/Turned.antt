@@ -1,24 +1,22 @@
 -- Which lists make a batch, and what a batch that is turned down or empty leaves.
 -- Assumes nothing.
-use Rattle.std.proofs.Common.{◌≡◌, ℕ, zero, suc, ◌*◌, ◌%◌, ◌<◌, ◌≤◌, Bool, true, false, eqb, ltb, List, [], ◌∷◌, length, get_or, take, drop, sym, refl, ap, ◌∙◌, arith, take-append-drop, take-take, drop-drop, ltb-false, le-ltb, eq-eqb, eqb-true}
+use Rattle.std.proofs.Common.{◌≡◌, ℕ, zero, suc, ◌*◌, ◌%◌, ◌<◌, ◌≤◌, Bool, true, false, ◌||◌, eqb, ltb, List, [], ◌∷◌, length, get_or, take, drop, sym, refl, ap, ◌∙◌, arith, take-append-drop, take-take, drop-drop, ltb-false, le-ltb, eq-eqb, eqb-true}
 use lib.Seq.{set-get_or}
-use Rattle.base.specs.Choice.{choose}
+use Rattle.base.specs.Choice.{choose, case_option}
 use Rattle.sessions.specs.Batch.{known, fits, finish_all, after_batch, receiving_session, receive}
-use Rattle.sessions.specs.Cases.{case_found}
 use Rattle.sessions.specs.Index.{slot_of}
 use Rattle.sessions.specs.Laws.{IsBatch, EmptyBatchLaw, InSlot}
 use Rattle.sessions.specs.Session.{empty_session}
 use Rattle.sessions.specs.Sessions.{put}
 use Rattle.sessions.specs.Store.{slot_words, put_slot}
 use Rattle.sessions.specs.declared.batch.Progress.{Progress}
-use Rattle.sessions.specs.declared.batch.Received.TheVariants.{Rejected, Judged}
 use Rattle.sessions.specs.declared.session.Session.{Session}
-use Rattle.sessions.specs.declared.sessions.Found.TheVariants.{Nothing, Got}
-use Rattle.sessions.specs.declared.sessions.Found.{Found}
 use Rattle.sessions.specs.declared.sessions.Sessions.{Sessions}
-use Rattle.sessions.proofs.Batches.{or_false}
 use Rattle.sessions.proofs.Lookups.{received_slot}
 use Rattle.sessions.proofs.Words.{slot_long}
+use Rattle.std.specs.Prelude.{Err, None, Ok, Option, Result, Some}
+use Rattle.error.specs.declared.Error.{Error}
+use Rattle.base.proofs.Choice.{ok_parts}
 
 -- every kind is one of the three just where the test says so
 first_known : (kind : ℕ) (kinds : List ℕ) (b : Bool) → ltb 2 kind ≡ b → choose b false (known kinds) ≡ true → (kind ≤ 2) × (known kinds ≡ true)
@@ -58,9 +56,8 @@ module _ (counters kinds verdicts skips : List ℕ) where
   unfolding fits
   fits_batch e = fits_by _ _ _ _ refl refl refl refl e
 
-  -- as the call that makes the test learns it
-  pub fits_long : (f : Bool) → f ≡ fits counters kinds verdicts skips → f ≡ true → (length kinds ≡ length counters) × (length verdicts ≡ length counters) × (length skips ≡ length counters)
-  fits_long f e p = let y : IsBatch counters kinds verdicts skips = fits_batch (sym e ∙ p) in (y.kinds_long, y.verdicts_long, y.skips_long)
+  pub fits_long : fits counters kinds verdicts skips ≡ true → (length kinds ≡ length counters) × (length verdicts ≡ length counters) × (length skips ≡ length counters)
+  fits_long e = let y : IsBatch counters kinds verdicts skips = fits_batch e in (y.kinds_long, y.verdicts_long, y.skips_long)
 
   pub batch_fits : IsBatch counters kinds verdicts skips → fits counters kinds verdicts skips ≡ true
   unfolding fits choose
@@ -80,14 +77,14 @@ module _ (s : Sessions) (store : List ℕ) (index id now : ℕ) (counters kinds 
     pub list : (receive s store index id now counters kinds verdicts skips).verdicts ≡ verdicts
     pub skip_list : (receive s store index id now counters kinds verdicts skips).skips ≡ skips
 
-  pub rejected : (number : ℕ) → (receive s store index id now counters kinds verdicts skips).out ≡ Rejected number → Left
-  unfolding receive case_found choose
-  rejected number = go (eqb (length store) 1024) (fits counters kinds verdicts skips) (receiving_session s index id now) refl refl refl
+  pub rejected : (error : Error) → (receive s store index id now counters kinds verdicts skips).out ≡ Err error → Left
+  unfolding receive case_option choose
+  rejected error = go (eqb (length store) 1024) (fits counters kinds verdicts skips) (receiving_session s index id now) refl refl refl
     where
-      go : (b f : Bool) (found : Found) → eqb (length store) 1024 ≡ b → fits counters kinds verdicts skips ≡ f → receiving_session s index id now ≡ found
-          → (receive s store index id now counters kinds verdicts skips).out ≡ Rejected number → Left
-      go true true (Got x) e p q r = let y = rw (e, p, q) at r in let z : ◌≡◌ {A = ℕ} 0 1 = cc in absurd (omega arith)
-      go true true Nothing e p q r = record { words = rw (e, p, q) refl; list = rw (e, p, q) refl; skip_list = rw (e, p, q) refl }
+      go : (b f : Bool) (found : Option Session) → eqb (length store) 1024 ≡ b → fits counters kinds verdicts skips ≡ f → receiving_session s index id now ≡ found
+          → (receive s store index id now counters kinds verdicts skips).out ≡ Err error → Left
+      go true true (Some x) e p q r = let y = rw (e, p, q) at r in let z : ◌≡◌ {A = ℕ} 0 1 = cc in absurd (omega arith)
+      go true true None e p q r = record { words = rw (e, p, q) refl; list = rw (e, p, q) refl; skip_list = rw (e, p, q) refl }
       go true false found e p q r = record { words = rw (e, p) refl; list = rw (e, p) refl; skip_list = rw (e, p) refl }
       go false f found e p q r = record { words = rw e refl; list = rw e refl; skip_list = rw e refl }
 
@@ -105,28 +102,32 @@ module _ (s : Sessions) (store : List ℕ) (index id now : ℕ) where
   abbrev nothing : Session → Progress
   nothing x = record { next = x.next; accepted = false; «data» = false }
 
+  or_false : (b : Bool) → (b || false) ≡ b
+  or_false true = refl
+  or_false false = refl
+
   unmarked : (x : Session) → after_batch x (nothing x) now ≡ x
   unfolding choose
   unmarked x = rw (or_false x.received_data) refl
 
-  judged_session : (x y : Session) (p q : Progress) → Judged x p ≡ Judged y q → x ≡ y
-  judged_session x y p q e = cc
+  judged_session : (x y : Session) (p q : Progress) → ◌≡◌ {A = Result (Session × Progress) Error} (Ok (x, p)) (Ok (y, q)) → x ≡ y
+  judged_session x y p q e = (ok_parts x y p q e).0
 
-  judged_progress : (x y : Session) (p q : Progress) → Judged x p ≡ Judged y q → p ≡ q
-  judged_progress x y p q e = cc
+  judged_progress : (x y : Session) (p q : Progress) → ◌≡◌ {A = Result (Session × Progress) Error} (Ok (x, p)) (Ok (y, q)) → p ≡ q
+  judged_progress x y p q e = (ok_parts x y p q e).1
 
   put_same : (x : Session) → InSlot s index x → put s x ≡ s
   unfolding put
   put_same x i = rw (ap slot_of i.named, ← i.stored) (rw (set-get_or s.slots (slot_of index) empty_session) refl)
 
-  pub empty_leaves : (b : Bool) (found : Found) → eqb (length store) 1024 ≡ b → receiving_session s index id now ≡ found → EmptyBatchLaw s store index id now
-  unfolding receive fits known finish_all case_found choose
+  pub empty_leaves : (b : Bool) (found : Option Session) → eqb (length store) 1024 ≡ b → receiving_session s index id now ≡ found → EmptyBatchLaw s store index id now
+  unfolding receive fits known finish_all case_option choose
   empty_leaves false found e q = record { answer = λ x p r. (let y = rw e at r in let z : ◌≡◌ {A = ℕ} 0 1 = cc in absurd (omega arith)); words = rw e refl; list = rw e refl; skip_list = rw e refl }
-  empty_leaves true Nothing e q = record { answer = λ x p r. (let y = rw (e, q) at r in let z : ◌≡◌ {A = ℕ} 0 1 = cc in absurd (omega arith)); words = rw (e, q) refl; list = rw (e, q) refl; skip_list = rw (e, q) refl }
-  empty_leaves true (Got x) e q =
+  empty_leaves true None e q = record { answer = λ x p r. (let y = rw (e, q) at r in let z : ◌≡◌ {A = ℕ} 0 1 = cc in absurd (omega arith)); words = rw (e, q) refl; list = rw (e, q) refl; skip_list = rw (e, q) refl }
+  empty_leaves true (Some x) e q =
       record {
         answer = λ y p r.
-            let j : Judged (after_batch x (nothing x) now) (nothing x) ≡ Judged y p = rw (e, q) at r in (
+            let j : Ok ((after_batch x (nothing x) now), (nothing x)) ≡ Ok (y, p) = rw (e, q) at r in (
               ap (put s) (sym (judged_session _ y _ p j) ∙ unmarked x) ∙ put_same x (received_slot s index id now x q).0,
               ap (λ (z : Progress). z.accepted) (sym (judged_progress _ y _ p j)),
             );

@@ -2,33 +2,31 @@
 -- Assumes nothing.
 use Rattle.std.proofs.Common.{◌≡◌, ℕ, ◌+◌, ◌-◌, ◌<◌, ◌≤◌, Bool, true, false, eqb, ltb, leb, [], ◌∷◌, refl, arith, le-ltb, lt-ltb, eq-eqb, ne_eqb, le-leb, leb-false, leb-true}
 use borrow.Author.Tests.{lt-leb}
-use Rattle.base.specs.Choice.{choose}
+use Rattle.base.specs.Choice.{choose, case_option}
 use Rattle.window.specs.Window.{limit}
-use Rattle.sessions.specs.Cases.{case_role, case_found}
+use Rattle.sessions.specs.Cases.{case_role}
 use Rattle.sessions.specs.Batch.{receiving_session}
 use Rattle.sessions.specs.Laws.{InSlot, MaySend}
 use Rattle.sessions.specs.Range.{ends_above_limit, split_off, split_number, split_values}
 use Rattle.sessions.specs.Session.{expired_at, should_use_at, sending_counter_exhausted, reserve_counters, with_counter}
 use Rattle.sessions.specs.Sessions.{in_slot_of, get, current_of, usable, sending_session}
 use Rattle.sessions.specs.declared.range.Range.{Range}
-use Rattle.sessions.specs.declared.session.Reserved.TheVariants.{TooFew, First}
 use Rattle.sessions.specs.declared.session.Role.TheVariants.{Initiator, Responder}
 use Rattle.sessions.specs.declared.session.Role.{Role}
 use Rattle.sessions.specs.declared.session.Session.{Session}
-use Rattle.sessions.specs.declared.sessions.Found.TheVariants.{Nothing, Got}
-use Rattle.sessions.specs.declared.sessions.Found.{Found}
 use Rattle.sessions.specs.declared.sessions.Sessions.{Sessions}
 use Rattle.sessions.proofs.Lookups.{sending_current}
+use Rattle.std.specs.Prelude.{None, Option, Some}
 
 -- what a send looks for in the current session
 module _ (x : Session) (now : ℕ) where
-  abbrev picked : Found
-  picked = choose (sending_counter_exhausted x) Nothing (choose (expired_at x now) Nothing (usable x now))
+  abbrev picked : Option Session
+  picked = choose (sending_counter_exhausted x) None (choose (expired_at x now) None (usable x now))
 
   -- what is picked may send
   picked_by : (a b d : Bool) (role : Role) (y : Session) → leb limit x.sending_key_counter ≡ a → leb (x.established_at + 180000000000) now ≡ b
       → leb (now + 10000000000) (x.established_at + 180000000000) ≡ d → x.role ≡ role
-      → choose a Nothing (choose b Nothing (choose d (Got x) (case_role role Nothing (Got x)))) ≡ Got y → MaySend x now
+      → choose a None (choose b None (choose d (Some x) (case_role role None (Some x)))) ≡ Some y → MaySend x now
   unfolding choose case_role
   picked_by true b d role y p q r e f = let z : ◌≡◌ {A = ℕ} 0 1 = cc in absurd (omega arith)
   picked_by false true d role y p q r e f = let z : ◌≡◌ {A = ℕ} 0 1 = cc in absurd (omega arith)
@@ -46,19 +44,19 @@ module _ (x : Session) (now : ℕ) where
         prompt = λ i. (let z : ◌≡◌ {A = ℕ} 0 1 = cc in absurd (omega arith));
       }
 
-  picked_may : (y : Session) → picked ≡ Got y → MaySend x now
+  picked_may : (y : Session) → picked ≡ Some y → MaySend x now
   unfolding sending_counter_exhausted expired_at usable should_use_at
   picked_may y e = picked_by _ _ _ x.role y refl refl refl refl e
 
   -- what may send is picked
   picks_by : (d : Bool) (role : Role) → leb (now + 10000000000) (x.established_at + 180000000000) ≡ d → x.role ≡ role → MaySend x now
-      → choose d (Got x) (case_role role Nothing (Got x)) ≡ Got x
+      → choose d (Some x) (case_role role None (Some x)) ≡ Some x
   unfolding choose case_role
   picks_by true role r e m = refl
   picks_by false Initiator r e m = absurd (omega (arith, leb-false (now + 10000000000) (x.established_at + 180000000000) r, m.prompt e))
   picks_by false Responder r e m = refl
 
-  may_picked : MaySend x now → picked ≡ Got x
+  may_picked : MaySend x now → picked ≡ Some x
   unfolding sending_counter_exhausted expired_at usable should_use_at choose
   may_picked m =
       rw (lt-leb limit x.sending_key_counter m.counter, lt-leb (x.established_at + 180000000000) now m.young)
@@ -66,34 +64,34 @@ module _ (x : Session) (now : ℕ) where
 
 -- the session for sending
 module _ (s : Sessions) where
-  pub sending_may : (now : ℕ) (x : Session) → sending_session s now ≡ Got x → (current_of s ≡ Got x) × MaySend x now
-  unfolding sending_session case_found
+  pub sending_may : (now : ℕ) (x : Session) → sending_session s now ≡ Some x → (current_of s ≡ Some x) × MaySend x now
+  unfolding sending_session case_option
   sending_may now x e =
-      let c : current_of s ≡ Got x = sending_current s now x e in
+      let c : current_of s ≡ Some x = sending_current s now x e in
       (c, picked_may x now x (rw c at e))
 
-  pub may_sending : (now : ℕ) (x : Session) → current_of s ≡ Got x → MaySend x now → sending_session s now ≡ Got x
-  unfolding sending_session case_found
+  pub may_sending : (now : ℕ) (x : Session) → current_of s ≡ Some x → MaySend x now → sending_session s now ≡ Some x
+  unfolding sending_session case_option
   may_sending now x c m = rw c (may_picked x now m)
 
   -- the session for a batch
-  pub in_got : (index : ℕ) (x : Session) → InSlot s index x → get s index ≡ Got x
-  unfolding get in_slot_of case_found choose
+  pub in_got : (index : ℕ) (x : Session) → InSlot s index x → get s index ≡ Some x
+  unfolding get in_slot_of case_option choose
   in_got index x i = rw (i.stored, i.filled, eq-eqb x.receiving_index index i.named) refl
 
-  pub in_received : (index now : ℕ) (x : Session) → InSlot s index x → now < x.established_at + 180000000000 → receiving_session s index x.id now ≡ Got x
-  unfolding receiving_session case_found expired_at choose
+  pub in_received : (index now : ℕ) (x : Session) → InSlot s index x → now < x.established_at + 180000000000 → receiving_session s index x.id now ≡ Some x
+  unfolding receiving_session case_option expired_at choose
   in_received index now x i l =
       rw (in_got index x i, eq-eqb x.id x.id refl, lt-leb (x.established_at + 180000000000) now l) refl
 
 -- the counters that are left
 module _ (s : Session) (len : ℕ) where
   pub reserve_grants : s.sending_key_counter + len ≤ limit
-      → reserve_counters s len ≡ First s.sending_key_counter (with_counter s (s.sending_key_counter + len))
+      → reserve_counters s len ≡ Some (s.sending_key_counter, (with_counter s (s.sending_key_counter + len)))
   unfolding reserve_counters choose
   reserve_grants h = rw (le-leb (s.sending_key_counter + len) limit h) refl
 
-  pub reserve_refuses : limit < s.sending_key_counter + len → reserve_counters s len ≡ TooFew
+  pub reserve_refuses : limit < s.sending_key_counter + len → reserve_counters s len ≡ None
   unfolding reserve_counters choose
   reserve_refuses h = rw (lt-leb (s.sending_key_counter + len) limit h) refl
 

@@ -1,17 +1,18 @@
--- Every operation hands a store of 1,024 words back with so many.
+-- Some operation hands a store of 1,024 words back with so many.
 -- Assumes nothing.
 use Rattle.std.proofs.Common.{◌≡◌, ℕ, zero, suc, ◌%◌, ◌<◌, ◌≤◌, List, length, arith}
 use Rattle.base.specs.Lists.{zeros}
-use Rattle.base.proofs.Choice.{of_choice}
+use Rattle.base.proofs.Choice.{of_choice, of_option}
 use Rattle.base.proofs.Zeros.{length_zeros}
-use Rattle.sessions.specs.Cases.{of_found}
 use Rattle.sessions.specs.Batch.{Batched, receive}
-use Rattle.sessions.specs.declared.batch.Received.{Received}
 use Rattle.sessions.specs.Sessions.{Held, insert, clear, Expiring, expire_slot, expire_first, expire}
 use Rattle.sessions.specs.Store.{put_slot}
 use Rattle.sessions.specs.declared.session.Session.{Session}
 use Rattle.sessions.specs.declared.sessions.Sessions.{Sessions}
 use Rattle.sessions.proofs.Words.{length_put}
+use Rattle.std.specs.Prelude.{Result}
+use Rattle.error.specs.declared.Error.{Error}
+use Rattle.sessions.specs.declared.batch.Progress.{Progress}
 
 -- a store of 1,024 words
 abbrev Whole : List ℕ → Type 0
@@ -45,7 +46,7 @@ pub receive_whole : (s : Sessions) (store : List ℕ) (index id now : ℕ) (coun
     → Whole (receive s store index id now counters kinds verdicts skips).store
 unfolding receive
 receive_whole s store index id now counters kinds verdicts skips l =
-    of_choice (λ (y : Batched Received). Whole y.store) _ _ _
-    (of_choice (λ (y : Batched Received). Whole y.store) _ _ _
-    (of_found (λ (y : Batched Received). Whole y.store) _ _ _ l (λ x. length_put store _ (x.receiving_index % 8) l (omega arith))) l)
+    of_choice (λ (y : Batched (Result (Session × Progress) Error)). Whole y.store) _ _ _
+    (of_choice (λ (y : Batched (Result (Session × Progress) Error)). Whole y.store) _ _ _
+    (of_option (λ (y : Batched (Result (Session × Progress) Error)). Whole y.store) _ _ _ l (λ x. length_put store _ (x.receiving_index % 8) l (omega arith))) l)
     l

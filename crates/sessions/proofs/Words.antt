@@ -1,12 +1,12 @@
 -- The lent store by slots: what a part of it is, and what a part put back leaves.
 -- Assumes nothing.
-use Rattle.std.proofs.Common.{◌≡◌, ℕ, ◌+◌, ◌-◌, ◌*◌, ◌<◌, ◌≤◌, List, ◌++◌, length, take, drop, sym, ap, ◌∙◌, append_assoc, arith, length-append, length-drop, take-append-drop, length-take, length-take-le, take_all, drop-drop, take_at, drop_at}
+use Rattle.std.proofs.Common.{◌≡◌, ℕ, ◌+◌, ◌-◌, ◌*◌, ◌<◌, ◌≤◌, List, ◌++◌, length, replicate, take, drop, sym, ap, ◌∙◌, append_assoc, arith, length-append, length-drop, take-append-drop, length-take, length-take-le, take_all, drop-drop, take_at, drop_at}
 use native.Mathlib.Decide.{dec_le}
 use lib.Seq.{take-append-le, drop-append-le, drop-append-add}
 use borrow.Rule.Slice.PartMut.{put_mid}
 use Rattle.base.specs.Lists.{zeros}
 use Rattle.base.proofs.Zeros.{length_zeros}
-use Rattle.sessions.specs.Store.{slot_words, put_slot}
+use Rattle.sessions.specs.Store.{slot_words, put_slot, Leaves}
 
 -- a part lent on is a slot's words
 pub part_is : (store : List ℕ) (k start end : ℕ) → start ≡ 128 * k → end ≡ start + 128 → take (end - start) (drop start store) ≡ slot_words store k
@@ -27,11 +27,12 @@ unfolding slot_words
 slot_long store k l h = length-take-le 128 (drop (128 * k) store) (rw length-drop (omega arith))
 
 -- a slot of a store zeroed as a part of it
-pub slot_zeroed : (store words : List ℕ) (k start end : ℕ) → length store ≡ 1024 → k < 8 → start ≡ 128 * k → end ≡ start + 128
-    → words ≡ zeros (length (take (end - start) (drop start store))) → put_mid start (end - start) store words ≡ put_slot store k (zeros 128)
+pub slot_zeroed : (store words : List ℕ) (k start end : ℕ) → length store ≡ 1024 → k < 8 → start ≡ 128 * k → end ≡ 128 * k + 128
+    → words ≡ replicate (length (take (end - start) (drop start store))) 0 → put_mid start (end - start) store words ≡ put_slot store k (zeros 128)
+unfolding zeros
 slot_zeroed store words k start end l h s e z =
-    let zeroed : words ≡ zeros 128 = z ∙ ap zeros (ap length (part_is store k start end s e) ∙ slot_long store k l h) in
-    part_put store words k start end (ap length zeroed ∙ length_zeros 128) s e ∙ ap (put_slot store k) zeroed
+    let zeroed : words ≡ zeros 128 = z ∙ ap (λ (n : ℕ). replicate n 0) (ap length (part_is store k start end s (omega arith)) ∙ slot_long store k l h) in
+    part_put store words k start end (ap length zeroed ∙ length_zeros 128) s (omega arith) ∙ ap (put_slot store k) zeroed
 
 -- the words of a slot among those of a store, where the slot lies before or after a place
 front : (a r : List ℕ) (n : ℕ) → n + 128 ≤ length a → take 128 (drop n (a ++ r)) ≡ take 128 (drop n a)
@@ -92,3 +93,7 @@ module _ (store words : List ℕ) (k : ℕ) (l : length store ≡ 1024) (low : k
     | yes h ↦ slot_after_lem j (omega arith)
     | no h ↦ slot_before j (omega arith)
   ]
+
+-- what a call leaves, by its two parts
+pub left_so : {A : Type 0} (answer shall : A) (left should : List ℕ) → answer ≡ shall → left ≡ should → Leaves answer shall left should
+left_so answer shall left should e f = record { out = e; words = f }

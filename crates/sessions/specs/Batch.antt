@@ -1,20 +1,18 @@
 -- A batch of received messages, after `finish_receive_packet_data` of src/session.rs and `commit_decapsulate` of src/tunnel.rs.
-use Rattle.std.specs.Prelude.{◌≡◌, ℕ, Bool, true, false, ◌||◌, List, [], ◌∷◌, length, ◌==◌, nat_lt, slice_index, slice_set}
-use Rattle.base.specs.Choice.{choose}
+use Rattle.std.specs.Prelude.{◌≡◌, ℕ, Bool, true, false, ◌||◌, List, [], ◌∷◌, length, ◌==◌, nat_lt, slice_index, slice_set, Err, None, Ok, Option, Result, Some}
+use Rattle.base.specs.Choice.{choose, case_option, case_result}
 use Rattle.window.specs.Window.{will_accept, next_after, words_after, skipped_by}
 use Rattle.sessions.specs.Index.{slot_of}
 use Rattle.sessions.specs.Store.{whole, slot_words, put_slot}
 use Rattle.sessions.specs.Session.{with_received_data, with_next, with_last_heard, expired_at}
-use Rattle.sessions.specs.Cases.{case_found}
 use Rattle.sessions.specs.Sessions.{get}
 use Rattle.sessions.specs.declared.batch.Progress.{Progress}
 use Rattle.sessions.specs.declared.batch.Finished.{Finished}
-use Rattle.sessions.specs.declared.batch.Received.{Received}
-use Rattle.sessions.specs.declared.batch.Received.TheVariants.{Rejected, Judged}
 use Rattle.sessions.specs.declared.session.Session.{Session}
-use Rattle.sessions.specs.declared.sessions.Found.{Found}
-use Rattle.sessions.specs.declared.sessions.Found.TheVariants.{Nothing, Got}
 use Rattle.sessions.specs.declared.sessions.Sessions.{Sessions}
+use Rattle.error.specs.declared.Error.TheVariants.{InvalidArgument, InvalidAeadTag, NoCurrentSession}
+use Rattle.error.specs.Error.{verdict_number}
+use Rattle.error.specs.declared.Error.{Error}
 
 -- what a batch hands back: an answer, and the words, the verdict list and the skip list that it leaves
 pub record Batched (A : Type 0) : Type 0 where
@@ -52,14 +50,15 @@ pub record Message : Type 0 where
   pub finished : Finished
   pub words : List ℕ
 
--- one message: 7 where it failed to open, which skips nothing, else as the window says
+-- one message: turned down where it failed to open, which skips nothing, else as the window says
 unfoldable pub finish_receive_packet_data : List ℕ → Progress → (counter kind : ℕ) → Message
 finish_receive_packet_data words progress counter kind =
-    choose (kind == 2) (record { finished = record { verdict = 7; skipped = 0; progress = progress }; words = words })
-    (choose (will_accept words progress.next counter == 0)
-    (record {
+    choose (kind == 2) (record { finished = record { verdict = Err InvalidAeadTag; skipped = 0; progress = progress }; words = words })
+    (case_result (will_accept words progress.next counter)
+    (λ error. record { finished = record { verdict = Err error; skipped = 0; progress = progress }; words = words })
+    (λ good. record {
       finished = record {
-        verdict = 0;
+        verdict = Ok good;
         skipped = skipped_by words progress.next counter;
         progress = record {
           next = next_after words progress.next counter;
@@ -68,8 +67,7 @@ finish_receive_packet_data words progress counter kind =
         };
       };
       words = words_after words progress.next counter;
-    })
-    (record { finished = record { verdict = will_accept words progress.next counter; skipped = 0; progress = progress }; words = words }))
+    }))
 
 -- the message at a place of the lists, with its verdict and its skip at that place
 abbrev pub finish_at : List ℕ → Progress → (counters kinds verdicts skips : List ℕ) → ℕ → Batched Progress
@@ -78,7 +76,7 @@ finish_at words progress counters kinds verdicts skips i =
     record {
       out = message.finished.progress;
       store = message.words;
-      verdicts = slice_set verdicts i message.finished.verdict;
+      verdicts = slice_set verdicts i (verdict_number message.finished.verdict);
       skips = slice_set skips i message.finished.skipped;
     }
 
@@ -92,7 +90,7 @@ finish_all words progress (counter ∷ counters) (kind ∷ kinds) =
     record {
       out = rest.out;
       store = rest.store;
-      verdicts = message.finished.verdict ∷ rest.verdicts;
+      verdicts = verdict_number message.finished.verdict ∷ rest.verdicts;
       skips = message.finished.skipped ∷ rest.skips;
     }
 
@@ -106,24 +104,24 @@ after_batch s progress now =
     hear (with_received_data (with_next s progress.next) (s.received_data || progress.«data»)) progress.accepted now
 
 -- the session that a batch is for: the one with this index and id, if it is not expired
-unfoldable pub receiving_session : Sessions → (index id now : ℕ) → Found
+unfoldable pub receiving_session : Sessions → (index id now : ℕ) → Option Session
 receiving_session s index id now =
-    case_found (get s index) Nothing (λ session. choose (session.id == id) (choose (expired_at session now) Nothing (Got session)) Nothing)
+    case_option (get s index) None (λ session. choose (session.id == id) (choose (expired_at session now) None (Some session)) None)
 
 -- a batch: 2 for a store not of 1,024 words or lists that make no batch, 12 where there is no such session or it is expired, else judged over the words of the session's slot
-unfoldable pub receive : Sessions → List ℕ → (index id now : ℕ) → (counters kinds verdicts skips : List ℕ) → Batched Received
+unfoldable pub receive : Sessions → List ℕ → (index id now : ℕ) → (counters kinds verdicts skips : List ℕ) → Batched (Result (Session × Progress) Error)
 receive s store index id now counters kinds verdicts skips =
     choose (whole store)
     (choose (fits counters kinds verdicts skips)
-    (case_found (receiving_session s index id now) (untouched (Rejected 12) store verdicts skips)
+    (case_option (receiving_session s index id now) (untouched (Err NoCurrentSession) store verdicts skips)
     (λ session.
     let slot : ℕ = slot_of session.receiving_index in
     let batch : Batched Progress = finish_all (slot_words store slot) (record { next = session.next; accepted = false; «data» = false }) counters kinds in
     record {
-      out = Judged (after_batch session batch.out now) batch.out;
+      out = Ok (after_batch session batch.out now, batch.out);
       store = put_slot store slot batch.store;
       verdicts = batch.verdicts;
       skips = batch.skips;
     }))
-    (untouched (Rejected 2) store verdicts skips))
-    (untouched (Rejected 2) store verdicts skips)
+    (untouched (Err InvalidArgument) store verdicts skips))
+    (untouched (Err InvalidArgument) store verdicts skips)

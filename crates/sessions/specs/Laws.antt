@@ -1,14 +1,11 @@
--- What follows from the definitions: what the lookups find, which slots a call touches, how many words it leaves, which index is told ahead and
+-- What follows from the definitions: what the cases find, which slots a call touches, how many words it leaves, which index is told ahead and
 -- allocated, which lists make a batch, what a batch leaves that is turned down or empty, when a session was last heard, which numbers an early
 -- look gives, which counters a missing report counts, which are left to grant, and how a range is cut.
-use Rattle.std.specs.Prelude.{◌≡◌, ℕ, ◌+◌, ◌-◌, ◌/◌, ◌%◌, ◌^◌, ◌<◌, ◌≤◌, min, Bool, true, false, ◌⊎◌, List, [], ◌∷◌, ◌++◌, length, ◌==◌, ◌≢◌, slice_index}
-use Rattle.base.specs.Choice.{choose}
+use Rattle.std.specs.Prelude.{◌≡◌, ℕ, ◌+◌, ◌-◌, ◌/◌, ◌%◌, ◌^◌, ◌<◌, ◌≤◌, min, Bool, true, false, ◌⊎◌, List, [], ◌∷◌, ◌++◌, length, ◌==◌, ◌≢◌, slice_index, Err, None, Ok, Some}
+use Rattle.base.specs.Choice.{choose, case_result, case_results}
 use Rattle.base.specs.Lists.{zeros}
 use Rattle.base.specs.Sums.{sum}
 use Rattle.sessions.specs.declared.session.Session.{Session}
-use Rattle.sessions.specs.declared.sessions.Found.TheVariants.{Nothing, Got}
-use Rattle.sessions.specs.declared.sessions.Missing.TheVariants.{Refused, Count}
-use Rattle.sessions.specs.declared.sessions.Selected.TheVariants.{Index}
 use Rattle.sessions.specs.declared.sessions.Sessions.{Sessions}
 use Rattle.sessions.specs.Index.{slot_of}
 use Rattle.sessions.specs.Store.{slot_words, put_slot}
@@ -18,12 +15,10 @@ use Rattle.window.specs.Window.{limit, bit_at}
 use Rattle.sessions.specs.declared.batch.Progress.{Progress}
 use Rattle.sessions.specs.Range.{split_off, split_number, split_values}
 use Rattle.sessions.specs.Session.{new_session, empty_session, with_next, with_counter, reserve_counters, will_receive}
-use Rattle.sessions.specs.declared.batch.Received.TheVariants.{Rejected, Judged}
 use Rattle.sessions.specs.declared.range.Range.{Range}
-use Rattle.sessions.specs.declared.session.Reserved.TheVariants.{TooFew, First}
 use Rattle.sessions.specs.declared.session.Role.TheVariants.{Initiator}
-use Rattle.sessions.specs.declared.session.Time.TheVariants.{Never, At}
-use Rattle.sessions.specs.Cases.{case_received}
+use Rattle.error.specs.declared.Error.{Error}
+use Rattle.error.specs.Error.{error_number, verdict_number}
 
 -- a slot has the same record and the same words before and after
 pub record Kept (s last : Sessions) (store left : List ℕ) (slot : ℕ) : Type 0 where
@@ -34,7 +29,7 @@ pub record Kept (s last : Sessions) (store left : List ℕ) (slot : ℕ) : Type 
 pub record SlotsApart (s : Sessions) (store : List ℕ) (slot : ℕ) : Type 0 where
   -- a batch for an index of another slot
   pub batch : (index id now : ℕ) (counters kinds verdicts skips : List ℕ) → (slot ≢ slot_of index)
-      → Kept s (case_received (receive s store index id now counters kinds verdicts skips).out (λ number. s) (λ session progress. put s session))
+      → Kept s (case_results (receive s store index id now counters kinds verdicts skips).out (λ error. s) (λ session progress. put s session))
       store (receive s store index id now counters kinds verdicts skips).store slot
   -- a session inserted into another slot
   pub insertion : (session : Session) → (slot ≢ slot_of session.receiving_index)
@@ -50,7 +45,7 @@ pub record InSlot (s : Sessions) (index : ℕ) (x : Session) : Type 0 where
 
 -- The following number's slot is the current session's: the session with the selected index fills its slot, and the following number has that slot too.
 pub record SlotTaken (s : Sessions) (index : ℕ) (x : Session) : Type 0 where
-  pub selected : s.current ≡ Index index
+  pub selected : s.current ≡ Some index
   pub there : InSlot s index x
   pub following : index % 8 ≡ (s.last_index + 1) % 8
 
@@ -63,7 +58,7 @@ pub record NextIndexLaw (s : Sessions) : Type 0 where
   pub low : (ahead s).index % 256 ≡ (s.last_index + (ahead s).tries) % 256
   pub upper : (ahead s).index / 256 ≡ s.last_index / 256
   -- it never has the slot of the current session
-  pub apart : (index : ℕ) (x : Session) → s.current ≡ Index index → InSlot s index x → (ahead s).index % 8 ≢ index % 8
+  pub apart : (index : ℕ) (x : Session) → s.current ≡ Some index → InSlot s index x → (ahead s).index % 8 ≢ index % 8
   -- the allocation gives it, keeps it as the last one and changes nothing else
   pub given : (next_index s).index ≡ (ahead s).index
   pub stored : (next_index s).sessions ≡ with_last_index s (ahead s).index
@@ -97,25 +92,25 @@ pub record MaySend (x : Session) (now : ℕ) : Type 0 where
 pub record EmptyLaw : Type 0 where
   pub unfilled : (x : Session) → x ≡ empty_session → x.filled ≢ true
 
--- What the lookups find:
+-- What the cases find:
 pub record LookupLaw (s : Sessions) : Type 0 where
   -- by an index, the session that fills its slot and has this index
-  pub found : (index : ℕ) (x : Session) → get s index ≡ Got x → InSlot s index x
+  pub found : (index : ℕ) (x : Session) → get s index ≡ Some x → InSlot s index x
   -- the current session fills its slot
-  pub current : (x : Session) → current_of s ≡ Got x → InSlot s x.receiving_index x
+  pub current : (x : Session) → current_of s ≡ Some x → InSlot s x.receiving_index x
   -- the session for sending is the current one, and may send
-  pub sending : (now : ℕ) (x : Session) → sending_session s now ≡ Got x → (current_of s ≡ Got x) × MaySend x now
+  pub sending : (now : ℕ) (x : Session) → sending_session s now ≡ Some x → (current_of s ≡ Some x) × MaySend x now
   -- a current session that may send is found for sending
-  pub sends : (now : ℕ) (x : Session) → current_of s ≡ Got x → MaySend x now → sending_session s now ≡ Got x
+  pub sends : (now : ℕ) (x : Session) → current_of s ≡ Some x → MaySend x now → sending_session s now ≡ Some x
   -- the session for a batch has the index and the id, and is younger than 180 s
-  pub receiving : (index id now : ℕ) (x : Session) → receiving_session s index id now ≡ Got x
+  pub receiving : (index id now : ℕ) (x : Session) → receiving_session s index id now ≡ Some x
       → InSlot s index x × (x.id ≡ id) × (now < x.established_at + 180000000000)
   -- a session that fills its slot, has the index and the id and is younger than 180 s is found for a batch
   pub receives : (index now : ℕ) (x : Session) → InSlot s index x → now < x.established_at + 180000000000
-      → receiving_session s index x.id now ≡ Got x
+      → receiving_session s index x.id now ≡ Some x
   -- when the session that fills its slot and has the index was last heard, and none where there is no such session
-  pub heard : (index : ℕ) (x : Session) → InSlot s index x → last_heard s index ≡ At x.last_heard
-  pub unheard : (index : ℕ) → ((x : Session) → InSlot s index x → ⊥) → last_heard s index ≡ Never
+  pub heard : (index : ℕ) (x : Session) → InSlot s index x → last_heard s index ≡ Some x.last_heard
+  pub unheard : (index : ℕ) → ((x : Session) → InSlot s index x → ⊥) → last_heard s index ≡ None
 
 -- What words put into a slot leave: the store's length, the slot's words where they are 128, and every other slot's.
 pub record SlotLaw (store words : List ℕ) (slot : ℕ) : Type 0 where
@@ -132,7 +127,7 @@ pub record WholeLaw (s : Sessions) (store : List ℕ) : Type 0 where
 
 -- An expiry that finds no session expired leaves all as it was.
 pub record ExpiryLaw (s : Sessions) (store : List ℕ) (now : ℕ) : Type 0 where
-  pub none : none_expired s now ≡ true → expire s store now ≡ expiring (record { sessions = s; current = Nothing }) store
+  pub none : none_expired s now ≡ true → expire s store now ≡ expiring (record { sessions = s; current = None }) store
 
 -- Lists that make a batch: of one length, of at most 1,024 messages, each of one of the three kinds.
 pub record IsBatch (counters kinds verdicts skips : List ℕ) : Type 0 where
@@ -149,21 +144,21 @@ pub record FitsLaw (counters kinds verdicts skips : List ℕ) : Type 0 where
 
 -- The early look of a session over a store of 1,024 words gives 0, 6, 9 or 10.
 pub record LookLaw (s : Session) (store : List ℕ) (receiver counter : ℕ) : Type 0 where
-  pub numbers : (will_receive s store receiver counter ≡ 0) ⊎ (will_receive s store receiver counter ≡ 6) ⊎ (will_receive s store receiver counter ≡ 9)
-      ⊎ (will_receive s store receiver counter ≡ 10)
+  pub numbers : (verdict_number (will_receive s store receiver counter) ≡ 0) ⊎ (verdict_number (will_receive s store receiver counter) ≡ 6)
+      ⊎ (verdict_number (will_receive s store receiver counter) ≡ 9) ⊎ (verdict_number (will_receive s store receiver counter) ≡ 10)
 
 -- A batch that is turned down leaves the store and both lists as they came.
 pub record RejectedLaw (s : Sessions) (store : List ℕ) (index id now : ℕ) (counters kinds verdicts skips : List ℕ) : Type 0 where
-  pub words : (number : ℕ) → (receive s store index id now counters kinds verdicts skips).out ≡ Rejected number
+  pub words : (error : Error) → (receive s store index id now counters kinds verdicts skips).out ≡ Err error
       → (receive s store index id now counters kinds verdicts skips).store ≡ store
-  pub list : (number : ℕ) → (receive s store index id now counters kinds verdicts skips).out ≡ Rejected number
+  pub list : (error : Error) → (receive s store index id now counters kinds verdicts skips).out ≡ Err error
       → (receive s store index id now counters kinds verdicts skips).verdicts ≡ verdicts
-  pub skip_list : (number : ℕ) → (receive s store index id now counters kinds verdicts skips).out ≡ Rejected number
+  pub skip_list : (error : Error) → (receive s store index id now counters kinds verdicts skips).out ≡ Err error
       → (receive s store index id now counters kinds verdicts skips).skips ≡ skips
 
 -- An empty batch leaves the session that it is for, the store and both lists as they were, and accepts nothing.
 pub record EmptyBatchLaw (s : Sessions) (store : List ℕ) (index id now : ℕ) : Type 0 where
-  pub answer : (session : Session) (progress : Progress) → (receive s store index id now [] [] [] []).out ≡ Judged session progress
+  pub answer : (session : Session) (progress : Progress) → (receive s store index id now [] [] [] []).out ≡ Ok (session, progress)
       → (put s session ≡ s) × (progress.accepted ≡ false)
   pub words : (receive s store index id now [] [] [] []).store ≡ store
   pub list : (receive s store index id now [] [] [] []).verdicts ≡ []
@@ -176,10 +171,10 @@ commits (verdict ∷ verdicts) = choose (verdict == 0) true (commits verdicts)
 
 -- A batch that commits a message leaves its own time as that at which the session was last heard; any other leaves that time as it was.
 pub record HeardLaw (s : Sessions) (store : List ℕ) (index id now : ℕ) (counters kinds verdicts skips : List ℕ) : Type 0 where
-  pub committed : (session : Session) (progress : Progress) → (receive s store index id now counters kinds verdicts skips).out ≡ Judged session progress
+  pub committed : (session : Session) (progress : Progress) → (receive s store index id now counters kinds verdicts skips).out ≡ Ok (session, progress)
       → commits (receive s store index id now counters kinds verdicts skips).verdicts ≡ true → session.last_heard ≡ now
   pub uncommitted : (before session : Session) (progress : Progress) → InSlot s index before
-      → (receive s store index id now counters kinds verdicts skips).out ≡ Judged session progress
+      → (receive s store index id now counters kinds verdicts skips).out ≡ Ok (session, progress)
       → commits (receive s store index id now counters kinds verdicts skips).verdicts ≡ false → session.last_heard ≡ before.last_heard
 
 -- The messages of a batch keep the window's next at most LIMIT.
@@ -189,8 +184,8 @@ pub record NextLaw (words : List ℕ) (progress : Progress) (counters kinds : Li
 -- A session has counters left up to 2^64 - 8,193, and grants them from its send counter on.
 pub record ReserveLaw (s : Session) (len : ℕ) : Type 0 where
   pub grants : s.sending_key_counter + len ≤ 2 ^ 64 - 8193
-      → reserve_counters s len ≡ First s.sending_key_counter (with_counter s (s.sending_key_counter + len))
-  pub refuses : 2 ^ 64 - 8193 < s.sending_key_counter + len → reserve_counters s len ≡ TooFew
+      → reserve_counters s len ≡ Some (s.sending_key_counter, (with_counter s (s.sending_key_counter + len)))
+  pub refuses : 2 ^ 64 - 8193 < s.sending_key_counter + len → reserve_counters s len ≡ None
 
 -- What a cut of a range answers, in document 01's numbers and values:
 pub record SplitLaw (r : Range) (at : ℕ) : Type 0 where
@@ -210,7 +205,7 @@ pub record SplitLaw (r : Range) (at : ℕ) : Type 0 where
 pub record MissingLaw (s : Sessions) (store : List ℕ) (index : ℕ) (x : Session) : Type 0 where
   -- it is a count
   pub count : ℕ
-  pub answered : missing s store index ≡ Count count
+  pub answered : missing s store index ≡ Ok count
   -- with the counters that are committed it makes up the window: the last 8,192 below the next expected one, or all where there are fewer
   pub together : count + sum (λ k. bit_at (slot_words store (slot_of index)) (x.next - 8192 + k)) (min x.next 8192) ≡ min x.next 8192
   -- a session that committed nothing has none missing, whatever its words are
@@ -223,7 +218,7 @@ pub record MissingLaw (s : Sessions) (store : List ℕ) (index : ℕ) (x : Sessi
 
 -- The missing report of an index that no filled slot holds is turned down by 12.
 pub record NoReportLaw (s : Sessions) (store : List ℕ) (index : ℕ) : Type 0 where
-  pub number : missing s store index ≡ Refused 12
+  pub number : case_result (missing s store index) error_number (λ count. 0) ≡ 12
 
 -- a session in slot 1 that expects counter 70 next
 unfoldable pub expects70 : Session
@@ -241,4 +236,4 @@ store70 = zeros 129 ++ 18446744073709551615 ∷ zeros 894
 pub record MissingExample : Type 0 where
   pub held : InSlot with70 1 expects70
   pub size : length store70 ≡ 1024
-  pub report : missing with70 store70 1 ≡ Count 64
+  pub report : missing with70 store70 1 ≡ Ok 64

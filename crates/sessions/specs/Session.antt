@@ -1,17 +1,15 @@
 -- One session, after `Session` of src/session.rs, without its keys and without its window's bitmap. Times are nanoseconds.
-use Rattle.std.specs.Prelude.{ℕ, ◌+◌, ◌-◌, Bool, true, false, leb, List, ◌==◌, nat_le, nat_lt}
-use Rattle.base.specs.Choice.{choose}
+use Rattle.std.specs.Prelude.{ℕ, ◌+◌, ◌-◌, Bool, true, false, leb, List, ◌==◌, nat_le, nat_lt, None, Option, Some, Result, Err}
+use Rattle.error.specs.declared.Error.{Error}
+use Rattle.error.specs.declared.Error.TheVariants.{InvalidArgument, WrongIndex}
+use Rattle.base.specs.Choice.{choose, case_option}
 use Rattle.window.specs.Window.{limit, will_accept}
 use Rattle.sessions.specs.Index.{slot_of}
 use Rattle.sessions.specs.Store.{whole, slot_words}
-use Rattle.sessions.specs.declared.session.Time.{Time}
-use Rattle.sessions.specs.declared.session.Time.TheVariants.{Never, At}
 use Rattle.sessions.specs.declared.session.Role.{Role}
 use Rattle.sessions.specs.declared.session.Role.TheVariants.{Initiator}
 use Rattle.sessions.specs.declared.session.Session.{Session}
-use Rattle.sessions.specs.declared.session.Reserved.{Reserved}
-use Rattle.sessions.specs.declared.session.Reserved.TheVariants.{TooFew, First}
-use Rattle.sessions.specs.Cases.{case_role, case_time}
+use Rattle.sessions.specs.Cases.{case_role}
 
 -- LIMIT, by the name of the Rust: no counter at or above it is granted or committed
 abbrev pub reject_after_messages : ℕ
@@ -42,16 +40,16 @@ abbrev pub time_limit : ℕ
 time_limit = 4000000000000000000
 
 -- whether a deadline has come
-unfoldable pub due_by : Time → ℕ → Bool
-due_by deadline now = case_time deadline false (λ at. leb at now)
+unfoldable pub due_by : Option ℕ → ℕ → Bool
+due_by deadline now = case_option deadline false (λ at. leb at now)
 
 -- the lesser of two numbers
 unfoldable pub least : ℕ → ℕ → ℕ
 least a b = choose (nat_lt b a) b a
 
 -- the earlier of two deadlines
-unfoldable pub earlier : Time → Time → Time
-earlier a b = case_time a b (λ x. case_time b (At x) (λ y. At (least x y)))
+unfoldable pub earlier : Option ℕ → Option ℕ → Option ℕ
+earlier a b = case_option a b (λ x. case_option b (Some x) (λ y. Some (least x y)))
 
 -- a session just established, last heard at that time
 unfoldable pub new_session : (local peer : ℕ) → Role → (now : ℕ) → Session
@@ -194,15 +192,15 @@ unfoldable pub empty_session : Session
 empty_session = with_filled (new_session 0 0 Initiator 0) false
 
 -- the rekey deadline for an initiator session that has sent data
-unfoldable pub rekey_after_time_on_send : Session → Time
-rekey_after_time_on_send s = case_role s.role (choose s.sent_data (At (s.established_at + rekey_after_time)) Never) Never
+unfoldable pub rekey_after_time_on_send : Session → Option ℕ
+rekey_after_time_on_send s = case_role s.role (choose s.sent_data (Some (s.established_at + rekey_after_time)) None) None
 
 -- the rekey deadline before expiry for an initiator session that has received data
-unfoldable pub reject_after_time_on_receive : Session → Time
+unfoldable pub reject_after_time_on_receive : Session → Option ℕ
 reject_after_time_on_receive s =
     case_role s.role
-    (choose s.received_data (At (s.established_at + reject_after_time - keepalive_timeout - rekey_timeout)) Never)
-    Never
+    (choose s.received_data (Some (s.established_at + reject_after_time - keepalive_timeout - rekey_timeout)) None)
+    None
 
 -- the time from which a session is expired
 unfoldable pub expires_at : Session → ℕ
@@ -229,15 +227,15 @@ unfoldable pub prepare_packet_data : Session → Session
 prepare_packet_data s = with_sent_data s true
 
 -- so many consecutive counters reserved, if they end at LIMIT at most
-unfoldable pub reserve_counters : Session → ℕ → Reserved
+unfoldable pub reserve_counters : Session → ℕ → Option (ℕ × Session)
 reserve_counters s len =
     choose (nat_le (s.sending_key_counter + len) limit)
-    (First s.sending_key_counter (with_counter s (s.sending_key_counter + len)))
-    TooFew
+    (Some (s.sending_key_counter, (with_counter s (s.sending_key_counter + len))))
+    None
 
--- the early look: 2 where the store is not of 1,024 words, 6 for another index, else what the window's words say
-unfoldable pub will_receive : Session → List ℕ → (receiver counter : ℕ) → ℕ
+-- the early look: an argument is invalid where the store is not of 1,024 words, another index is wrong, else what the window's words say
+unfoldable pub will_receive : Session → List ℕ → (receiver counter : ℕ) → Result Unit Error
 will_receive s store receiver counter =
     choose (whole store)
-    (choose (receiver == s.receiving_index) (will_accept (slot_words store (slot_of receiver)) s.next counter) 6)
-    2
+    (choose (receiver == s.receiving_index) (will_accept (slot_words store (slot_of receiver)) s.next counter) (Err WrongIndex))
+    (Err InvalidArgument)

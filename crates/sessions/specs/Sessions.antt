@@ -1,28 +1,22 @@
 -- The ring of sessions, after `Sessions` of src/session.rs: eight slots, each session in the slot of its local index modulo 8.
-use Rattle.std.specs.Prelude.{◌≡◌, ℕ, zero, suc, ◌+◌, ◌%◌, ◌^◌, ◌<◌, ◌≤◌, Bool, true, false, List, replicate, ◌==◌, nat_eq, nat_lt, slice_index_or, slice_set}
-use Rattle.base.specs.Choice.{choose}
+use Rattle.std.specs.Prelude.{◌≡◌, ℕ, zero, suc, ◌+◌, ◌%◌, ◌^◌, ◌<◌, ◌≤◌, Bool, true, false, List, replicate, ◌==◌, nat_eq, nat_lt, slice_index_or, slice_set, Err, None, Ok, Option, Result, Some}
+use Rattle.base.specs.Choice.{choose, case_option}
 use Rattle.base.specs.First.{none_of}
 use Rattle.sessions.specs.Index.{slot_of, wrapping_increment}
 use Rattle.sessions.specs.Store.{whole, slot_words, put_slot, missing_of}
 use Rattle.base.specs.Lists.{zeros}
 use Rattle.sessions.specs.Session.{time_limit, earlier, with_id, empty_session, expires_at, expired_at, should_use_at, sending_counter_exhausted}
-use Rattle.sessions.specs.Cases.{case_role, case_found, case_selected}
-use Rattle.sessions.specs.declared.session.Time.{Time}
-use Rattle.sessions.specs.declared.session.Time.TheVariants.{Never, At}
+use Rattle.sessions.specs.Cases.{case_role}
 use Rattle.sessions.specs.declared.session.Session.{Session}
-use Rattle.sessions.specs.declared.sessions.Found.{Found}
-use Rattle.sessions.specs.declared.sessions.Found.TheVariants.{Nothing, Got}
-use Rattle.sessions.specs.declared.sessions.Selected.{Selected}
-use Rattle.sessions.specs.declared.sessions.Selected.TheVariants.{Unset, Index}
-use Rattle.sessions.specs.declared.sessions.Missing.{Missing}
-use Rattle.sessions.specs.declared.sessions.Missing.TheVariants.{Refused, Count}
 use Rattle.sessions.specs.declared.sessions.Sessions.{Sessions}
 use Rattle.sessions.specs.declared.sessions.Ahead.{Ahead}
 use Rattle.sessions.specs.declared.sessions.Allocated.{Allocated}
 use Rattle.sessions.specs.declared.sessions.Expired.{Expired}
+use Rattle.error.specs.declared.Error.TheVariants.{InvalidArgument, NoCurrentSession}
+use Rattle.error.specs.declared.Error.{Error}
 
 -- sessions of four fields
-abbrev pub ring : List Session → Selected → (last inserted : ℕ) → Sessions
+abbrev pub ring : List Session → Option ℕ → (last inserted : ℕ) → Sessions
 ring slots current last inserted = record { slots = slots; current = current; last_index = last; inserted = inserted }
 
 -- sessions with other slots
@@ -30,7 +24,7 @@ abbrev pub with_slots : Sessions → List Session → Sessions
 with_slots s x = ring x s.current s.last_index s.inserted
 
 -- sessions with another selected index
-abbrev pub with_current : Sessions → Selected → Sessions
+abbrev pub with_current : Sessions → Option ℕ → Sessions
 with_current s x = ring s.slots x s.last_index s.inserted
 
 -- sessions with another index last allocated
@@ -56,27 +50,27 @@ empty_slots = replicate 8 empty_session
 
 -- an empty ring
 unfoldable pub new_sessions : ℕ → Sessions
-new_sessions index = ring empty_slots Unset index 0
+new_sessions index = ring empty_slots None index 0
 
 -- the session in the slot of an index
-unfoldable pub in_slot_of : Sessions → ℕ → Found
-in_slot_of s index = choose (slot_at s (slot_of index)).filled (Got (slot_at s (slot_of index))) Nothing
+unfoldable pub in_slot_of : Sessions → ℕ → Option Session
+in_slot_of s index = choose (slot_at s (slot_of index)).filled (Some (slot_at s (slot_of index))) None
 
 -- the session with exactly this index
-unfoldable pub get : Sessions → ℕ → Found
-get s index = case_found (in_slot_of s index) Nothing (λ session. choose (session.receiving_index == index) (Got session) Nothing)
+unfoldable pub get : Sessions → ℕ → Option Session
+get s index = case_option (in_slot_of s index) None (λ session. choose (session.receiving_index == index) (Some session) None)
 
 -- the sessions with one put into the slot of its local index
 unfoldable pub put : Sessions → Session → Sessions
 put s session = with_slots s (slice_set s.slots (slot_of session.receiving_index) session)
 
 -- the current sending session
-unfoldable pub current_of : Sessions → Found
-current_of s = case_selected s.current Nothing (λ index. get s index)
+unfoldable pub current_of : Sessions → Option Session
+current_of s = case_option s.current None (λ index. get s index)
 
 -- whether an index has the current session's slot
 unfoldable pub in_current_slot : Sessions → ℕ → Bool
-in_current_slot s index = case_found (current_of s) false (λ session. nat_eq (slot_of session.receiving_index) (slot_of index))
+in_current_slot s index = case_option (current_of s) false (λ session. nat_eq (slot_of session.receiving_index) (slot_of index))
 
 -- an index, and how many numbers its allocation takes
 abbrev pub told : (index tries : ℕ) → Ahead
@@ -106,35 +100,35 @@ insert s store session =
     (record { sessions = s; store = store })
 
 -- a session neither exhausted nor expired, if it may send: at an age above 170 s only a responder's
-unfoldable pub usable : Session → ℕ → Found
-usable session now = choose (should_use_at session now) (Got session) (case_role session.role Nothing (Got session))
+unfoldable pub usable : Session → ℕ → Option Session
+usable session now = choose (should_use_at session now) (Some session) (case_role session.role None (Some session))
 
 -- the current session if it is usable for sending
-unfoldable pub sending_session : Sessions → ℕ → Found
+unfoldable pub sending_session : Sessions → ℕ → Option Session
 sending_session s now =
-    case_found (current_of s) Nothing
-    (λ session. choose (sending_counter_exhausted session) Nothing (choose (expired_at session now) Nothing (usable session now)))
+    case_option (current_of s) None
+    (λ session. choose (sending_counter_exhausted session) None (choose (expired_at session now) None (usable session now)))
 
 -- whether the selected index is this one
-unfoldable pub is_index : Selected → ℕ → Bool
-is_index selected index = case_selected selected false (λ current. nat_eq current index)
+unfoldable pub is_index : Option ℕ → ℕ → Bool
+is_index selected index = case_option selected false (λ current. nat_eq current index)
 
 -- an index selected as the current session
 unfoldable pub select : Sessions → ℕ → Sessions
-select s index = with_current s (Index index)
+select s index = with_current s (Some index)
 
 -- an index selected as the current session unless the current one is newer than the session of that index
 unfoldable pub set_current : Sessions → ℕ → Sessions
 set_current s index =
     choose (is_index s.current index) s
-    (case_found (get s index) s (λ fresh. case_found (current_of s) (select s index)
+    (case_option (get s index) s (λ fresh. case_option (current_of s) (select s index)
     (λ current. choose (nat_lt fresh.established_at current.established_at) s (select s index))))
 
 -- every slot emptied and the store zeroed; a store not of 1,024 words leaves all as it is
 unfoldable pub clear : Sessions → List ℕ → Held
 clear s store =
     choose (whole store)
-    (record { sessions = with_current (with_slots s empty_slots) Unset; store = zeros 1024 })
+    (record { sessions = with_current (with_slots s empty_slots) None; store = zeros 1024 })
     (record { sessions = s; store = store })
 
 -- one slot emptied
@@ -162,7 +156,7 @@ expiring e store = record { expired = e; store = store }
 unfoldable pub discard : Expired → ℕ → Expired
 discard e slot =
     choose (is_index e.sessions.current (slot_at e.sessions slot).receiving_index)
-    (record { sessions = with_current (emptied e.sessions slot) Unset; current = Got (slot_at e.sessions slot) })
+    (record { sessions = with_current (emptied e.sessions slot) None; current = Some (slot_at e.sessions slot) })
     (record { sessions = emptied e.sessions slot; current = e.current })
 
 -- a slot's session discarded if it is expired
@@ -181,8 +175,8 @@ expire_first e (suc count) now = expire_slot (expire_first e count now) count no
 unfoldable pub expire : Sessions → List ℕ → ℕ → Expiring
 expire s store now =
     choose (whole store)
-    (expire_first (expiring (record { sessions = s; current = Nothing }) store) 8 now)
-    (expiring (record { sessions = s; current = Nothing }) store)
+    (expire_first (expiring (record { sessions = s; current = None }) store) 8 now)
+    (expiring (record { sessions = s; current = None }) store)
 
 -- whether no session is stored
 abbrev pub is_empty : Sessions → Bool
@@ -193,25 +187,25 @@ pub record TimesWithin (s : Sessions) : Type 0 where
   pub within : (k : ℕ) → k < 8 → (slot_at s k).filled ≡ true → (slot_at s k).established_at ≤ time_limit
 
 -- when the session of a slot expires
-unfoldable pub slot_expiry : Sessions → ℕ → Time
-slot_expiry s slot = choose (slot_at s slot).filled (At (expires_at (slot_at s slot))) Never
+unfoldable pub slot_expiry : Sessions → ℕ → Option ℕ
+slot_expiry s slot = choose (slot_at s slot).filled (Some (expires_at (slot_at s slot))) None
 
 -- the earliest expiry of the first slots
-unfoldable pub first_expiry : Sessions → ℕ → Time
-first_expiry s zero = Never
+unfoldable pub first_expiry : Sessions → ℕ → Option ℕ
+first_expiry s zero = None
 first_expiry s (suc count) = earlier (first_expiry s count) (slot_expiry s count)
 
 -- the earliest session expiry deadline
-abbrev pub next_expiry : Sessions → Time
+abbrev pub next_expiry : Sessions → Option ℕ
 next_expiry s = first_expiry s 8
 
 -- when the session with exactly this index was last heard
-unfoldable pub last_heard : Sessions → ℕ → Time
-last_heard s index = case_found (get s index) Never (λ session. At session.last_heard)
+unfoldable pub last_heard : Sessions → ℕ → Option ℕ
+last_heard s index = case_option (get s index) None (λ session. Some session.last_heard)
 
 -- the missing report: 2 for a store not of 1,024 words, 12 where no session has this index, else its window's missing count
-unfoldable pub missing : Sessions → List ℕ → ℕ → Missing
+unfoldable pub missing : Sessions → List ℕ → ℕ → Result ℕ Error
 missing s store index =
     choose (whole store)
-    (case_found (get s index) (Refused 12) (λ session. Count (missing_of (slot_words store (slot_of session.receiving_index)) session.next)))
-    (Refused 2)
+    (case_option (get s index) (Err NoCurrentSession) (λ session. Ok (missing_of (slot_words store (slot_of session.receiving_index)) session.next)))
+    (Err InvalidArgument)

@@ -6,7 +6,9 @@ ghost use Rattle.sessions.specs.Batch.{LeavesBatch, known, fits, finish_receive_
 
 use crate::index::slot_of;
 use crate::session::Session;
-use crate::sessions::{Found, Sessions};
+use crate::sessions::Sessions;
+use crate::store::{STORE_WORDS, words_of};
+use error::{Error, verdict_number};
 
 // The kind of a message that opened as data.
 pub const DATA: u8 = 0;
@@ -31,61 +33,37 @@ pub struct Progress {
 // A message's verdict, how many counters it skipped, and the progress with it.
 #[derive(Clone, Copy)]
 pub struct Finished {
-    pub verdict: u8,
+    pub verdict: Result<(), Error>,
     pub skipped: u64,
     pub progress: Progress,
 }
 
-// What a batch answers: the number that turns it down, or its session afterwards and what its messages brought about.
-#[derive(Clone, Copy)]
-pub enum Received {
-    Rejected(u8),
-    Judged(Session, Progress),
-}
-
-// Whether a kind is one of the three, where those before it are.
-fn known_after(before: bool, kind: u8) -> bool
-    ensures { result ≡ choose (nat_lt 2 kind) false before }
-{
-    if kind > FAILED {
-        return false;
-    }
-    before
-}
-
 // Whether every kind is one of the three. The loop has no early exit, so that many kinds can be tested at once.
+#[tactic(auto, using(crate::proofs::Batches::known_all, std::proofs::lemmas::List::Folds::list_all_more))]
 fn known(kinds: &[u8]) -> bool
     ensures { result ≡ known kinds.now }
 {
     let mut good = true;
-    let mut i = 0;
-    while i < kinds.len() {
-        good = known_after(good, kinds[i]);
-        i = i + 1;
+    for kind in kinds {
+        good &= *kind <= FAILED;
     }
     good
 }
 
 // Whether lists make a batch: of one length, of at most 1,024 messages, each of a known kind.
+#[tactic(auto, unfolding(crate::specs::Batch::fits, base::specs::Choice::choose))]
 pub fn fits(counters: &[u64], kinds: &[u8], verdicts: &[u8], skips: &[u64]) -> bool
     ensures { result ≡ fits counters.now kinds.now verdicts.now skips.now }
 {
-    if counters.len() > 1024 {
-        return false;
-    }
-    if kinds.len() != counters.len() {
-        return false;
-    }
-    if verdicts.len() != counters.len() {
-        return false;
-    }
-    if skips.len() != counters.len() {
-        return false;
-    }
-    known(kinds)
+    counters.len() <= 1024
+        && kinds.len() == counters.len()
+        && verdicts.len() == counters.len()
+        && skips.len() == counters.len()
+        && known(kinds)
 }
 
 // Commits one message's counter to a window's words, or gives the verdict that fails it.
+#[tactic(auto, using(crate::proofs::Words::left_so), unfolding(crate::specs::Batch::finish_receive_packet_data, base::specs::Choice::choose, base::specs::Choice::case_result, window::specs::Window::mark_did_receive, window::specs::Window::words_after))]
 fn finish_receive_packet_data(
     words: &mut [u64],
     progress: Progress,
@@ -96,80 +74,33 @@ fn finish_receive_packet_data(
 {
     if kind == FAILED {
         return Finished {
-            verdict: 7,
+            verdict: Err(Error::InvalidAeadTag),
             skipped: 0,
             progress,
         };
     }
     let marked = window::mark_did_receive(words, progress.next, counter);
-    if marked.verdict != 0 {
+    if marked.verdict.is_err() {
         return Finished {
             verdict: marked.verdict,
             skipped: 0,
             progress,
         };
     }
-    if kind == DATA {
-        return Finished {
-            verdict: 0,
-            skipped: marked.skipped,
-            progress: Progress {
-                next: marked.next,
-                accepted: true,
-                data: true,
-            },
-        };
-    }
     Finished {
-        verdict: 0,
+        verdict: Ok(()),
         skipped: marked.skipped,
         progress: Progress {
             next: marked.next,
             accepted: true,
-            data: progress.data,
+            data: progress.data || kind == DATA,
         },
     }
 }
 
-// Puts a message's skip at a place that holds 0. Most skip none and write nothing.
-fn put_skip(skips: &mut [u64], i: usize, skipped: u64)
-    requires { (i < length skips.old) × (slice_index skips.old i ≡ 0) }
-    ensures { skips.new ≡ slice_set skips.old i skipped }
-{
-    if skipped == 0 {
-        return;
-    }
-    skips[i] = skipped;
-}
-
-// Commits the message at a place of the lists to a window's words, and puts its verdict and its skip at that place. The skip is 0 at
-// first, so that it need not be kept through the commit of a message that skips none. The progress is handed back field by field,
-// without the padding between them.
-fn finish_at(
-    words: &mut [u64],
-    progress: Progress,
-    counters: &[u64],
-    kinds: &[u8],
-    verdicts: &mut [u8],
-    skips: &mut [u64],
-    i: usize,
-) -> Progress
-    requires { (i < length counters.now) × (length kinds.now ≡ length counters.now) × (length verdicts.old ≡ length counters.now) × (length skips.old ≡ length counters.now) }
-    ensures { LeavesBatch (finish_at words.old progress counters.now kinds.now verdicts.old skips.old i) result words.new verdicts.new skips.new }
-{
-    skips[i] = 0;
-    let finished = finish_receive_packet_data(words, progress, counters[i], kinds[i]);
-    verdicts[i] = finished.verdict;
-    put_skip(skips, i, finished.skipped);
-    let after = finished.progress;
-    Progress {
-        next: after.next,
-        accepted: after.accepted,
-        data: after.data,
-    }
-}
-
-// Commits the messages in order to a window's words, each with the window as those before it left it.
+// Commits the messages in order to a window's words, each with the window as those before it left it. A skip is 0 at first, so that it
+// need not be kept through the commit of a message that skips none. The progress is taken over field by field, without the padding between
+// them.
 fn finish_all(
     words: &mut [u64],
     start: Progress,
@@ -182,59 +113,56 @@ fn finish_all(
     ensures { LeavesBatch (finish_all words.old start counters.now kinds.now) result words.new verdicts.new skips.new }
 {
     let mut progress = start;
-    let mut i = 0;
-    while i < counters.len() {
-        progress = finish_at(words, progress, counters, kinds, verdicts, skips, i);
-        i = i + 1;
+    for (i, counter) in counters.iter().enumerate() {
+        skips[i] = 0;
+        let finished = finish_receive_packet_data(words, progress, *counter, kinds[i]);
+        verdicts[i] = verdict_number(finished.verdict);
+        if finished.skipped != 0 {
+            skips[i] = finished.skipped;
+        }
+        let Progress {
+            next,
+            accepted,
+            data,
+        } = finished.progress;
+        progress = Progress {
+            next,
+            accepted,
+            data,
+        };
     }
     progress
 }
 
 impl Session {
-    // Notes the time of a batch, if any message was accepted.
-    fn hear(mut self, accepted: bool, now: u64) -> Session
-        ensures { result ≡ hear self accepted now }
-    {
-        if accepted {
-            self.last_heard = now;
-            return self;
-        }
-        self
-    }
-
     // The session after a batch: its window's next expected counter, whether any data has been received, and when it was last heard.
+    #[tactic(auto, unfolding(base::specs::Choice::choose))]
     fn after_batch(mut self, progress: Progress, now: u64) -> Session
         ensures { result ≡ after_batch self progress now }
     {
         self.next = progress.next;
-        if progress.data {
-            self.received_data = true;
-            return self.hear(progress.accepted, now);
+        self.received_data |= progress.data;
+        if progress.accepted {
+            self.last_heard = now;
         }
-        self.hear(progress.accepted, now)
+        self
     }
 }
 
 impl Sessions {
     // The session that a batch is for: the one with this index and id, if it is not expired.
-    fn receiving_session(self, index: u32, id: u64, now: u64) -> Found
+    #[tactic(auto, unfolding(crate::specs::Batch::receiving_session, base::specs::Choice::choose, base::specs::Choice::case_option))]
+    fn receiving_session(self, index: u32, id: u64, now: u64) -> Option<Session>
         ensures { result ≡ receiving_session self index id now }
     {
-        let Found::Got(session) = self.get(index) else {
-            return Found::Nothing;
-        };
-        if session.id != id {
-            return Found::Nothing;
-        }
-        if session.expired_at(now) {
-            return Found::Nothing;
-        }
-        Found::Got(session)
+        self.get(index)
+            .filter(|session| session.id == id && !session.expired_at(now))
     }
 
     // Gives each message of a batch for the session with this index and id its verdict and its skip, over the words of the session's
-    // slot, which are lent on by themselves. Turned down by 2 for a store not of 1,024 words or lists that make no batch, then by 12 where there
+    // slot, which are lent on by themselves: the session afterwards and what its messages brought about. Turned down by 2 for a store not of 1,024 words or lists that make no batch, then by 12 where there
     // is no such session or it is expired.
+    #[tactic(auto, using(crate::proofs::Words::part_is), unfolding(crate::specs::Batch::receive, base::specs::Choice::choose, base::specs::Choice::case_option))]
     pub fn receive(
         self,
         store: &mut [u64],
@@ -245,34 +173,22 @@ impl Sessions {
         kinds: &[u8],
         verdicts: &mut [u8],
         skips: &mut [u64],
-    ) -> Received
+    ) -> Result<(Session, Progress), Error>
         ensures { LeavesBatch (receive self store.old index id now counters.now kinds.now verdicts.old skips.old) result store.new verdicts.new skips.new }
     {
-        if store.len() != 1024 {
-            return Received::Rejected(2);
+        if store.len() != STORE_WORDS || !fits(counters, kinds, verdicts, skips) {
+            return Err(Error::InvalidArgument);
         }
-        if !fits(counters, kinds, verdicts, skips) {
-            return Received::Rejected(2);
-        }
-        let Found::Got(session) = self.receiving_session(index, id, now) else {
-            return Received::Rejected(12);
+        let Some(session) = self.receiving_session(index, id, now) else {
+            return Err(Error::NoCurrentSession);
         };
-        let start = 128 * slot_of(session.receiving_index);
-        let end = start + 128;
         let before = Progress {
             next: session.next,
             accepted: false,
             data: false,
         };
-        let progress = finish_all(
-            &mut store[start..end],
-            before,
-            counters,
-            kinds,
-            verdicts,
-            skips,
-        );
-        let after = session.after_batch(progress, now);
-        Received::Judged(after, progress)
+        let words = &mut store[words_of(slot_of(session.receiving_index))];
+        let progress = finish_all(words, before, counters, kinds, verdicts, skips);
+        Ok((session.after_batch(progress, now), progress))
     }
 }

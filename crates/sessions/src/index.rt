@@ -18,10 +18,9 @@ fn low_byte(index: u32) -> u8
 }
 
 // The index that follows: the low eight bits count up and wrap, the upper 24 stay.
+#[tactic(auto, using(crate::proofs::LowByte::low_written))]
 pub(crate) fn wrapping_increment(index: u32) -> u32
     ensures { result ≡ wrapping_increment index }
 {
-    let low = low_byte(index);
-    let next = std::num::wrapping_add_u8(low, 1);
-    index - low as u32 + next as u32
+    (index & !255) | u32::from(low_byte(index).wrapping_add(1))
 }

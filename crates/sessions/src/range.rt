@@ -3,9 +3,10 @@ ghost use Rattle.std.specs.Prelude.{◌≡◌};
 ghost use Rattle.sessions.specs.Range.{ends_above_limit, split_off};
 
 use crate::session::REJECT_AFTER_MESSAGES;
+use error::Error;
 
 // Consecutive counters granted for messages to one peer.
-#[derive(Clone, Copy)]
+#[derive(Clone, Copy, PartialEq, Eq)]
 pub struct Range {
     // The peer's index.
     pub peer: u32,
@@ -13,52 +14,34 @@ pub struct Range {
     pub len: u64,
 }
 
-// What cutting a range answers: that number 2 turns the call down, nothing, or the two parts.
-#[derive(Clone, Copy)]
-pub enum Split {
-    Invalid,
-    Whole,
-    Parts(Range, Range),
-}
-
 impl Range {
     // Whether the range ends above the counter limit.
+    #[tactic(auto, unfolding(crate::specs::Range::ends_above_limit))]
     fn ends_above_limit(self) -> bool
         ensures { result ≡ ends_above_limit self }
     {
-        if self.len > REJECT_AFTER_MESSAGES {
-            return true;
-        }
-        self.first > REJECT_AFTER_MESSAGES - self.len
+        self.len > REJECT_AFTER_MESSAGES || self.first > REJECT_AFTER_MESSAGES - self.len
     }
 
-    // Splits off the counters from `at` onwards. At the whole length or beyond it answers nothing.
-    pub fn split_off(self, at: u64) -> Split
+    // Splits off the counters from `at` onwards. At the whole length or beyond it answers nothing; a length or a cut of 0 and a range that
+    // ends above the limit are turned down.
+    #[tactic(auto, unfolding(crate::specs::Range::split_off, crate::specs::Range::ends_above_limit, base::specs::Choice::choose))]
+    pub fn split_off(self, at: u64) -> Result<Option<(Range, Range)>, Error>
         ensures { result ≡ split_off self at }
     {
-        if self.len == 0 {
-            return Split::Invalid;
-        }
-        if at == 0 {
-            return Split::Invalid;
-        }
-        if self.ends_above_limit() {
-            return Split::Invalid;
+        if self.len == 0 || at == 0 || self.ends_above_limit() {
+            return Err(Error::InvalidArgument);
         }
         if at >= self.len {
-            return Split::Whole;
+            return Ok(None);
         }
-        Split::Parts(
+        Ok(Some((
+            Range { len: at, ..self },
             Range {
-                peer: self.peer,
-                first: self.first,
-                len: at,
-            },
-            Range {
-                peer: self.peer,
                 first: self.first + at,
                 len: self.len - at,
+                ..self
             },
-        )
+        )))
     }
 }

@@ -1,9 +1,11 @@
 // One session, without its keys and without its window's bitmap. Times are nanoseconds.
 
 ghost use Rattle.std.specs.Prelude.{◌≡◌, ◌≤◌};
-ghost use Rattle.sessions.specs.Session.{time_limit, due_by, least, earlier, new_session, empty_session, rekey_after_time_on_send, reject_after_time_on_receive, expires_at, expired_at, should_use_at, rekey_after_messages_reached, sending_counter_exhausted, prepare_packet_data, reserve_counters, will_receive};
+ghost use Rattle.sessions.specs.Session.{time_limit, due_by, earlier, new_session, empty_session, rekey_after_time_on_send, reject_after_time_on_receive, expires_at, expired_at, should_use_at, rekey_after_messages_reached, sending_counter_exhausted, prepare_packet_data, reserve_counters, will_receive};
 
 use crate::index::slot_of;
+use crate::store::{STORE_WORDS, words_of};
+use error::Error;
 
 // The exclusive counter limit, leaving room for the replay window's arithmetic.
 pub const REJECT_AFTER_MESSAGES: u64 = window::REJECT_AFTER_MESSAGES;
@@ -23,55 +25,35 @@ pub const KEEPALIVE_TIMEOUT: u64 = 10_000_000_000;
 // The wait for a response before an initiation is sent again: 5 s in nanoseconds.
 pub const REKEY_TIMEOUT: u64 = 5_000_000_000;
 
-// A time that may be missing: the Rust's `Option<Instant>`.
-#[derive(Clone, Copy)]
-pub enum Time {
-    Never,
-    At(u64),
-}
-
 // Whether a deadline has come.
-pub fn due_by(deadline: Time, now: u64) -> bool
+#[tactic(auto, unfolding(crate::specs::Session::due_by, base::specs::Choice::case_option))]
+pub fn due_by(deadline: Option<u64>, now: u64) -> bool
     ensures { result ≡ due_by deadline now }
 {
-    match deadline {
-        Time::Never => false,
-        Time::At(at) => at <= now,
-    }
-}
-
-// The lesser of two numbers.
-fn least(a: u64, b: u64) -> u64
-    ensures { result ≡ least a b }
-{
-    if b < a {
-        return b;
-    }
-    a
+    deadline.is_some_and(|at| at <= now)
 }
 
 // The earlier of two deadlines.
-pub fn earlier(a: Time, b: Time) -> Time
+#[tactic(auto, unfolding(crate::specs::Session::earlier, crate::specs::Session::least, base::specs::Choice::choose, base::specs::Choice::case_option))]
+pub fn earlier(a: Option<u64>, b: Option<u64>) -> Option<u64>
     ensures { result ≡ earlier a b }
 {
-    match a {
-        Time::Never => b,
-        Time::At(x) => match b {
-            Time::Never => Time::At(x),
-            Time::At(y) => Time::At(least(x, y)),
-        },
+    match (a, b) {
+        (Some(a), Some(b)) => Some(a.min(b)),
+        (a, None) => a,
+        (None, b) => b,
     }
 }
 
 // Our role in the handshake that established a session.
-#[derive(Clone, Copy)]
+#[derive(Clone, Copy, PartialEq, Eq)]
 pub enum Role {
     Initiator,
     Responder,
 }
 
 // One slot's record. An empty slot holds what `Session::empty` gives.
-#[derive(Clone, Copy)]
+#[derive(Clone, Copy, PartialEq, Eq)]
 pub struct Session {
     pub filled: bool,
     // How many sessions were inserted before this one.
@@ -92,15 +74,9 @@ pub struct Session {
     pub next: u64,
 }
 
-// What a reservation answers: the first counter and the session that has counted it, or that too few are left.
-#[derive(Clone, Copy)]
-pub enum Reserved {
-    TooFew,
-    First(u64, Session),
-}
-
 impl Session {
     // A session just established. `Sessions::insert` gives it its id.
+    #[tactic(auto, unfolding(crate::specs::Session::new_session))]
     pub fn new(local_index: u32, peer_index: u32, role: Role, now: u64) -> Session
         ensures { result ≡ new_session local_index peer_index role now }
     {
@@ -120,49 +96,42 @@ impl Session {
     }
 
     // The record of an empty slot.
+    #[tactic(auto, unfolding(crate::specs::Session::empty_session, crate::specs::Session::new_session))]
     pub(crate) fn empty() -> Session
         ensures { result ≡ empty_session }
     {
-        let session = Session::new(0, 0, Role::Initiator, 0);
         Session {
             filled: false,
-            ..session
+            ..Session::new(0, 0, Role::Initiator, 0)
         }
     }
 
     // The rekey deadline for an initiator session that has sent data.
-    pub fn rekey_after_time_on_send(self) -> Time
+    #[tactic(auto, unfolding(crate::specs::Session::rekey_after_time_on_send, base::specs::Choice::choose, crate::specs::Cases::case_role))]
+    pub fn rekey_after_time_on_send(self) -> Option<u64>
         requires { self.established_at ≤ time_limit }
         ensures { result ≡ rekey_after_time_on_send self }
     {
-        let role = self.role;
-        let Role::Initiator = role else {
-            return Time::Never;
-        };
-        if self.sent_data {
-            return Time::At(self.established_at + REKEY_AFTER_TIME);
+        if self.role != Role::Initiator || !self.sent_data {
+            return None;
         }
-        Time::Never
+        Some(self.established_at + REKEY_AFTER_TIME)
     }
 
     // The rekey deadline before expiry for an initiator session that has received data.
-    pub fn reject_after_time_on_receive(self) -> Time
+    #[tactic(auto, unfolding(crate::specs::Session::reject_after_time_on_receive, base::specs::Choice::choose, crate::specs::Cases::case_role))]
+    pub fn reject_after_time_on_receive(self) -> Option<u64>
         requires { self.established_at ≤ time_limit }
         ensures { result ≡ reject_after_time_on_receive self }
     {
-        let role = self.role;
-        let Role::Initiator = role else {
-            return Time::Never;
-        };
-        if self.received_data {
-            return Time::At(
-                self.established_at + REJECT_AFTER_TIME - KEEPALIVE_TIMEOUT - REKEY_TIMEOUT,
-            );
+        if self.role != Role::Initiator || !self.received_data {
+            return None;
         }
-        Time::Never
+        Some(self.established_at + REJECT_AFTER_TIME - KEEPALIVE_TIMEOUT - REKEY_TIMEOUT)
     }
 
     // The time from which the session is expired.
+    #[tactic(auto, unfolding(crate::specs::Session::expires_at))]
     pub(crate) fn expires_at(self) -> u64
         requires { self.established_at ≤ time_limit }
         ensures { result ≡ expires_at self }
@@ -171,26 +140,23 @@ impl Session {
     }
 
     // Whether the session's age is at least `REJECT_AFTER_TIME`.
+    #[tactic(auto, unfolding(crate::specs::Session::expired_at))]
     pub fn expired_at(self, time: u64) -> bool
         ensures { result ≡ expired_at self time }
     {
-        if time < self.established_at {
-            return false;
-        }
-        time - self.established_at >= REJECT_AFTER_TIME
+        time.saturating_sub(self.established_at) >= REJECT_AFTER_TIME
     }
 
     // Whether the session has enough time left to send a packet: sending stops `KEEPALIVE_TIMEOUT` before expiry.
+    #[tactic(auto, unfolding(crate::specs::Session::should_use_at))]
     pub(crate) fn should_use_at(self, time: u64) -> bool
         ensures { result ≡ should_use_at self time }
     {
-        if time < self.established_at {
-            return true;
-        }
-        time - self.established_at <= REJECT_AFTER_TIME - KEEPALIVE_TIMEOUT
+        time.saturating_sub(self.established_at) <= REJECT_AFTER_TIME - KEEPALIVE_TIMEOUT
     }
 
     // Whether the sending counter has reached `REKEY_AFTER_MESSAGES`.
+    #[tactic(auto, unfolding(crate::specs::Session::rekey_after_messages_reached))]
     pub fn rekey_after_messages_reached(self) -> bool
         ensures { result ≡ rekey_after_messages_reached self }
     {
@@ -198,6 +164,7 @@ impl Session {
     }
 
     // Whether the sending counter has reached `REJECT_AFTER_MESSAGES`.
+    #[tactic(auto, unfolding(crate::specs::Session::sending_counter_exhausted))]
     pub(crate) fn sending_counter_exhausted(self) -> bool
         ensures { result ≡ sending_counter_exhausted self }
     {
@@ -205,6 +172,7 @@ impl Session {
     }
 
     // Marks that the session has carried outgoing data, keepalives excluded.
+    #[tactic(auto, unfolding(crate::specs::Session::prepare_packet_data))]
     pub fn prepare_packet_data(self) -> Session
         ensures { result ≡ prepare_packet_data self }
     {
@@ -214,37 +182,35 @@ impl Session {
         }
     }
 
-    // Reserves consecutive counters.
-    pub fn reserve_counters(self, len: u64) -> Reserved
+    // Reserves consecutive counters: the first of them and the session that has counted them, or none where too few are left.
+    #[tactic(auto, unfolding(crate::specs::Session::reserve_counters, base::specs::Choice::choose))]
+    pub fn reserve_counters(self, len: u64) -> Option<(u64, Session)>
         ensures { result ≡ reserve_counters self len }
     {
         let first = self.sending_key_counter;
-        if len > REJECT_AFTER_MESSAGES {
-            return Reserved::TooFew;
-        }
-        if first > REJECT_AFTER_MESSAGES - len {
-            return Reserved::TooFew;
-        }
-        let end = first + len;
-        let session = Session {
-            sending_key_counter: end,
-            ..self
-        };
-        Reserved::First(first, session)
+        let end = first
+            .checked_add(len)
+            .filter(|end| *end <= REJECT_AFTER_MESSAGES)?;
+        Some((
+            first,
+            Session {
+                sending_key_counter: end,
+                ..self
+            },
+        ))
     }
 
-    // Checks a data message's index and counter before decryption: 0, 6, 9 or 10; 2 where the store is not of 1,024 words.
-    pub fn will_receive(self, store: &[u64], receiver: u32, counter: u64) -> u8
+    // Checks a data message's index and counter before decryption; the store is of 1,024 words.
+    #[tactic(auto, using(crate::proofs::Words::part_is), unfolding(crate::specs::Session::will_receive, base::specs::Choice::choose))]
+    pub fn will_receive(self, store: &[u64], receiver: u32, counter: u64) -> Result<(), Error>
         ensures { result ≡ will_receive self store.now receiver counter }
     {
-        if store.len() != 1024 {
-            return 2;
+        if store.len() != STORE_WORDS {
+            return Err(Error::InvalidArgument);
         }
         if receiver != self.receiving_index {
-            return 6;
+            return Err(Error::WrongIndex);
         }
-        let start = 128 * slot_of(receiver);
-        let end = start + 128;
-        window::will_accept(&store[start..end], self.next, counter)
+        window::will_accept(&store[words_of(slot_of(receiver))], self.next, counter)
     }
 }

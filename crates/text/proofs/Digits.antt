@@ -9,67 +9,50 @@ use native.Mathlib.Omega.{arith}
 use lib.Dec.{eqb}
 use lib.ListN.{length, get_or, set, drop, length-set, drop_of_length-le}
 use lib.Seq.{drop-cons, drop-set-lt, get_or-set_same}
-use borrow.Author.Tests.{lt-ltb, le-ltb, eq-eqb, ne_eqb, eqb-true}
-use Rattle.base.specs.Choice.{choose}
-use Rattle.text.specs.Number.{greatest, with_digit, case_number, number_from, number_of, digits_from, digits_of, Spelt, ReadsBack}
-use Rattle.text.specs.declared.word.Number.TheVariants.{Unreadable, Value}
-use Rattle.text.specs.declared.word.Number.{Number}
+use borrow.Author.Tests.{le-ltb, eq-eqb, ne_eqb, eqb-true}
+use Rattle.std.proofs.Common.{Option, None, Some}
+use Rattle.base.specs.Choice.{choose, case_option}
+use Rattle.text.specs.Number.{greatest, with_digit, number_from, number_of, digits_from, digits_of, Spelt, ReadsBack}
 
--- one more byte: the ways of `with_digit`
-module _ (value byte : ℕ) where
-  pub digit_low : byte < 48 → Unreadable ≡ with_digit value byte
-  unfolding with_digit choose
-  digit_low h = rw (lt-ltb byte 48 h)
-
-  pub digit_high : 48 ≤ byte → 57 < byte → Unreadable ≡ with_digit value byte
-  unfolding with_digit choose
-  digit_high h k = rw (le-ltb byte 48 h, lt-ltb 57 byte k)
-
-  over : 48 ≤ byte → byte ≤ 57 → greatest < value * 10 + (byte - 48) → Unreadable ≡ with_digit value byte
-  unfolding with_digit choose
-  over h k m = rw (le-ltb byte 48 h, le-ltb 57 byte k, lt-ltb greatest (value * 10 + (byte - 48)) m)
-
-  pub digit_many : 48 ≤ byte → byte ≤ 57 → 1844674407370955161 < value → Unreadable ≡ with_digit value byte
-  digit_many h k m = over h k (omega arith)
-
-  pub digit_over : 48 ≤ byte → byte ≤ 57 → greatest - (byte - 48) < value * 10 → Unreadable ≡ with_digit value byte
-  digit_over h k m = over h k (omega arith)
-
-  pub digit_fits : 48 ≤ byte → byte ≤ 57 → value * 10 ≤ greatest - (byte - 48) → Value (value * 10 + (byte - 48)) ≡ with_digit value byte
-  unfolding with_digit choose
-  digit_fits h k m =
-      let fits : value * 10 + (byte - 48) ≤ greatest = omega arith in
-      rw (le-ltb byte 48 h, le-ltb 57 byte k, le-ltb greatest (value * 10 + (byte - 48)) fits)
+-- the first `i` bytes of a word have been read
+pub record Counting (word : List ℕ) (value i : ℕ) : Type 0 where
+  pub left : number_of word ≡ number_from value (drop i word)
 
 -- a word of no bytes, and the start of one of some
-pub none_read : (word : List ℕ) → length word ≡ 0 → Unreadable ≡ number_of word
+pub none_read : (word : List ℕ) → length word ≡ 0 → None ≡ number_of word
 unfolding number_of
 none_read [] h = refl
 none_read (byte ∷ word) h = let z : ⊥ = omega arith in absurd z
 
-pub read_begins : (word : List ℕ) → (length word ≡ 0 → ⊥) → number_of word ≡ number_from 0 word
+pub some_read : (word : List ℕ) (n : ℕ) (r : Option ℕ) → r ≡ number_of word → r ≡ Some n → 0 < length word
+unfolding number_of
+some_read [] n r d v = cc
+some_read (byte ∷ word) n r d v = omega arith
+
+pub read_begins : (word : List ℕ) → (length word ≡ 0 → ⊥) → Counting word 0 0
 unfolding number_of
 read_begins [] h = absurd (h refl)
-read_begins (byte ∷ word) h = refl
+read_begins (byte ∷ word) h = record { left = refl }
 
-module _ (word : List ℕ) (value i : ℕ) (e : number_of word ≡ number_from value (drop i word)) where
+module _ (word : List ℕ) (value i : ℕ) (p : Counting word value i) where
   read_step : i < length word
-      → number_of word ≡ case_number (with_digit value (get_or word i 0)) (λ (more : ℕ). number_from more (drop (suc i) word)) Unreadable
+      → number_of word ≡ case_option (with_digit value (get_or word i 0)) None (λ (more : ℕ). number_from more (drop (suc i) word))
   unfolding number_from
-  read_step h = e ∙ rw (drop-cons word i 0 h)
+  read_step h = p.left ∙ rw (drop-cons word i 0 h)
 
-  pub read_more : (r : Number) (more : ℕ) → i < length word → r ≡ with_digit value (get_or word i 0) → r ≡ Value more
-      → number_of word ≡ number_from more (drop (i + 1) word)
-  unfolding case_number
-  read_more r more h d v = rw add-one (read_step h ∙ rw (← d, v))
+  pub read_more : (r : Option ℕ) (more : ℕ) → i < length word → r ≡ with_digit value (get_or word i 0) → r ≡ Some more → Counting word more (i + 1)
+  unfolding case_option
+  read_more r more h d v = record { left = rw add-one (read_step h ∙ rw (← d, v)) }
 
-  pub read_fails : (r : Number) → i < length word → r ≡ with_digit value (get_or word i 0) → r ≡ Unreadable → Unreadable ≡ number_of word
-  unfolding case_number
+  pub read_fails : (r : Option ℕ) → i < length word → r ≡ with_digit value (get_or word i 0) → r ≡ None → None ≡ number_of word
+  unfolding case_option
   read_fails r h d v = sym (read_step h ∙ rw (← d, v))
 
-  pub read_ends : length word ≤ i → Value value ≡ number_of word
+  pub read_ends : length word ≤ i → Some value ≡ number_of word
   unfolding number_from
-  read_ends h = sym (e ∙ rw (drop_of_length-le word {i = i} h))
+  read_ends h = sym (p.left ∙ rw (drop_of_length-le word {i = i} h))
+
+pub ruleset counting = (none_read, read_begins, read_more, read_fails, read_ends)
 
 -- the digits from a position on have been spelt
 pub record Spelling (n : ℕ) (bytes : List ℕ) (i rest : ℕ) : Type 0 where
@@ -128,13 +111,15 @@ module _ (n : ℕ) (bytes : List ℕ) (i rest : ℕ) (s : Spelling n bytes i res
         digits = subst (λ (k : ℕ). drop i bytes ≡ digits_from k rest (drop i bytes)) (sym none) refl ∙ s.left;
       }
 
+pub ruleset spelling = (spelling_begins, spelling_full)
+
 -- a digit read after a value
 digit_read : (value digit : ℕ) (text : List ℕ) → digit < 10 → value * 10 + digit ≤ greatest
     → number_from value ((48 + digit) ∷ text) ≡ number_from (value * 10 + digit) text
-unfolding number_from case_number
+unfolding number_from with_digit case_option choose
 digit_read value digit text h k =
     let same : 48 + digit - 48 ≡ digit = omega arith in
-    rw (← digit_fits value (48 + digit) (omega arith) (omega arith) (omega arith), same)
+    rw (le-ltb (48 + digit) 48 (omega arith), le-ltb 57 (48 + digit) (omega arith), same, le-ltb greatest (value * 10 + digit) k)
 
 -- numbers of at most so many digits are below this one
 unfoldable tens : ℕ → ℕ
@@ -189,5 +174,5 @@ unfolding digits_of number_from tens
 reads_back =
     record {
       same = λ (n : ℕ) (h : n ≤ greatest).
-          read_begins (digits_from 20 n []) (some_digit 19 n []) ∙ digits_read 20 n [] h (omega arith);
+          (read_begins (digits_from 20 n []) (some_digit 19 n [])).left ∙ digits_read 20 n [] h (omega arith);
     }

@@ -15,28 +15,25 @@ use Rattle.text.specs.Text.{Buffer, put_byte, put_bytes, Puts, Stands}
 
 -- the first `i` bytes of a text have been put
 pub record Putting (came : List ℕ) (from : ℕ) (text now : List ℕ) (at i : ℕ) : Type 0 where
-  pub within : i ≤ length text
-  pub size : length now ≡ length came
   pub left : put_bytes (record { bytes = came; at = from }) text ≡ put_bytes (record { bytes = now; at = at }) (drop i text)
 
 module _ (came : List ℕ) (from : ℕ) (text : List ℕ) where
   pub putting_begins : Putting came from text came from 0
-  putting_begins = record { within = omega arith; size = refl; left = refl }
+  putting_begins = record { left = refl }
 
   module _ (now : List ℕ) (at i : ℕ) (p : Putting came from text now at i) where
-    pub putting_more : (last : List ℕ) (end : ℕ) → i < length text → length last ≡ length now → Puts now at (get_or text i 0 ∷ []) last end
-        → Putting came from text last end (i + 1)
+    pub putting_more : (last : List ℕ) (end : ℕ) → i < length text → Puts now at (get_or text i 0 ∷ []) last end → Putting came from text last end (i + 1)
     unfolding put_bytes
-    putting_more last end h l e =
+    putting_more last end h e =
         record {
-          within = omega arith;
-          size = l ∙ p.size;
           left = rw add-one (p.left ∙ rw (drop-cons text i 0 h) (ap (λ (b : Buffer). put_bytes b (drop (suc i) text)) (sym e.buffer)));
         }
 
     pub putting_ends : length text ≤ i → Puts came from text now at
     unfolding put_bytes
     putting_ends h = record { buffer = sym (p.left ∙ rw (drop_of_length-le text {i = i} h)) }
+
+pub ruleset putting = (putting_begins, putting_more, putting_ends)
 
 -- one byte
 module _ (now : List ℕ) (at byte : ℕ) where
@@ -47,6 +44,8 @@ module _ (now : List ℕ) (at byte : ℕ) where
   pub puts_none : length now ≤ at → Puts now at (byte ∷ []) now at
   unfolding put_bytes put_byte choose
   puts_none h = record { buffer = rw (le-ltb at (length now) h) }
+
+pub ruleset one = (puts_one, puts_none)
 
 -- a byte, and a text after it
 module _ (came : List ℕ) (at byte : ℕ) where

@@ -1,3 +1,4 @@
+pub mod Gather
 pub mod Hex
 pub mod Number
 pub mod Place

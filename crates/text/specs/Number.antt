@@ -1,35 +1,27 @@
 -- Decimal numbers in text: what a word reads as, and how a number is written.
-use Rattle.std.specs.Prelude.{◌≡◌, List, [], ◌∷◌, ℕ, zero, suc, ◌+◌, ◌-◌, ◌*◌, ◌/◌, ◌%◌, ◌≤◌, ltb, eqb, length, drop}
-use Rattle.base.specs.Choice.{choose}
-use Rattle.text.specs.declared.word.Number.TheVariants.{Unreadable, Value}
-use Rattle.text.specs.declared.word.Number.{Number}
+use Rattle.std.specs.Prelude.{◌≡◌, List, [], ◌∷◌, ℕ, zero, suc, ◌+◌, ◌-◌, ◌*◌, ◌/◌, ◌%◌, ◌≤◌, ltb, eqb, length, drop, Option, None, Some}
+use Rattle.base.specs.Choice.{choose, case_option}
 
 -- the greatest number that 64 bits hold
 abbrev pub greatest : ℕ
 greatest = 18446744073709551615
 
 -- a value with one more byte, which has to be a digit
-unfoldable pub with_digit : ℕ → ℕ → Number
+unfoldable pub with_digit : ℕ → ℕ → Option ℕ
 with_digit value byte =
-    choose (ltb byte 48) Unreadable
-    (choose (ltb 57 byte) Unreadable
-    (choose (ltb greatest (value * 10 + (byte - 48))) Unreadable
-    (Value (value * 10 + (byte - 48)))))
-
-module _ {A : Type 0} where
-  -- one value where a number could not be read, and one made of the number where it could
-  unfoldable pub case_number : Number → (ℕ → A) → A → A
-  case_number Unreadable f z = z
-  case_number (Value n) f z = f n
+    choose (ltb byte 48) None
+    (choose (ltb 57 byte) None
+    (choose (ltb greatest (value * 10 + (byte - 48))) None
+    (Some (value * 10 + (byte - 48)))))
 
 -- what the bytes that are left read as after a value: each has to be a digit, and no value goes above the greatest
-unfoldable pub number_from : ℕ → List ℕ → Number
-number_from value [] = Value value
-number_from value (byte ∷ bytes) = case_number (with_digit value byte) (λ (more : ℕ). number_from more bytes) Unreadable
+unfoldable pub number_from : ℕ → List ℕ → Option ℕ
+number_from value [] = Some value
+number_from value (byte ∷ bytes) = case_option (with_digit value byte) None (λ (more : ℕ). number_from more bytes)
 
 -- what a word reads as: one or more digits, of which the first may be zeros, up to the greatest number
-unfoldable pub number_of : List ℕ → Number
-number_of [] = Unreadable
+unfoldable pub number_of : List ℕ → Option ℕ
+number_of [] = None
 number_of (byte ∷ bytes) = number_from 0 (byte ∷ bytes)
 
 -- the digits of a number, at most so many, in front of a text
@@ -50,4 +42,4 @@ pub record Spelt (n : ℕ) (bytes : List ℕ) (start : ℕ) : Type 0 where
 
 -- A written number reads back to itself.
 pub record ReadsBack : Type 0 where
-  pub same : (n : ℕ) → n ≤ greatest → number_of (digits_of n) ≡ Value n
+  pub same : (n : ℕ) → n ≤ greatest → number_of (digits_of n) ≡ Some n

@@ -1,78 +1,65 @@
 // Lines gathered from parts of the input.
-ghost use Rattle.std.specs.Prelude.{◌≤◌, length};
-ghost use Rattle.text.specs.Place.{Onward};
+ghost use Rattle.std.specs.Prelude.{◌≡◌, ◌↔◌, ◌≢◌, IsTrue, Some, length, option_copied};
+ghost use Rattle.text.specs.Gather.{line_of, with_part};
 
-// A line so far: how many bytes of the buffer it has, or that the buffer was too small.
-#[derive(Clone, Copy)]
-pub struct Gathered {
-    pub len: usize,
-    pub long: bool,
+// A line so far, at the front of a lent buffer: how many bytes it has, unless the buffer is too small.
+#[derive(Drop)]
+pub struct Gathered<'a> {
+    pub buffer: &'a mut [u8],
+    pub len: Option<usize>,
 }
 
-// The position of the first newline from here on, or the length.
-pub fn newline(bytes: &[u8], from: usize) -> usize
-    ensures { Onward from (length bytes.now) result }
-{
-    let mut at = from;
-    while at < bytes.len() {
-        if bytes[at] == b'\n' {
-            return at;
-        }
-        at = at + 1;
-    }
-    at
-}
-
-// Copies a part into a buffer at least as long.
-pub fn copy(to: &mut [u8], part: &[u8])
-    requires { length part.now ≤ length to.old }
-{
-    let mut i = 0;
-    while i < part.len() {
-        to[i] = part[i];
-        i = i + 1;
-    }
-}
-
-impl Gathered {
+impl<'a> Gathered<'a> {
     // A line with no bytes.
-    pub fn new() -> Gathered {
+    pub fn new(buffer: &'a mut [u8]) -> Gathered<'a>
+        ensures buffer { result.buffer ≡ buffer.entry }
+        ensures len { result.len ≡ Some 0 }
+    {
         Gathered {
-            len: 0,
-            long: false,
+            buffer,
+            len: Some(0),
         }
     }
 
     // Whether any byte has come.
-    pub fn begun(self) -> bool {
-        if self.long {
-            return true;
-        }
-        self.len > 0
+    pub fn begun(&self) -> bool
+        ensures { IsTrue result ↔ (self.now.len ≢ Some 0) }
+    {
+        self.len != Some(0)
     }
 
-    // The line with one more part.
-    pub fn append(self, line: &mut [u8], part: &[u8]) -> Gathered {
-        let from = self.len;
-        if self.long {
-            return self;
+    // The line, if the buffer holds all of it.
+    #[tactic(auto, unfolding(crate::specs::Gather::line_of, base::specs::Choice::case_option, base::specs::Choice::choose))]
+    pub fn line(&self) -> Option<&[u8]>
+        ensures { option_copied result ≡ line_of self.now.buffer.now self.now.len }
+    {
+        self.buffer.get(..self.len?)
+    }
+
+    // Puts one more part at the line's end.
+    #[tactic(auto, unfolding(crate::specs::Gather::line_of, crate::specs::Gather::with_part, base::specs::Choice::case_option, base::specs::Choice::choose))]
+    pub fn append(&mut self, part: &[u8])
+        ensures line { line_of self.new.buffer.now self.new.len
+            ≡ with_part (length self.old.buffer.now) (line_of self.old.buffer.now self.old.len) part.now }
+        ensures lent { self.new.buffer.ghost_name ≡ self.old.buffer.ghost_name }
+    {
+        let Some(from) = self.len else {
+            return;
+        };
+        if from > self.buffer.len() || part.len() > self.buffer.len() - from {
+            self.len = None;
+            return;
         }
-        if from > line.len() {
-            return Gathered {
-                len: from,
-                long: true,
-            };
-        }
-        if part.len() > line.len() - from {
-            return Gathered {
-                len: from,
-                long: true,
-            };
-        }
-        copy(&mut line[from..], part);
-        Gathered {
-            len: from + part.len(),
-            long: false,
-        }
+        let end = from + part.len();
+        self.buffer[from..end].copy_from_slice(part);
+        self.len = Some(end);
+    }
+
+    // Begins another line.
+    pub fn clear(&mut self)
+        ensures buffer { self.new.buffer ≡ self.old.buffer }
+        ensures len { self.new.len ≡ Some 0 }
+    {
+        self.len = Some(0);
     }
 }

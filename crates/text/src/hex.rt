@@ -1,164 +1,115 @@
 // Bytes in hexadecimal digits: two for a byte, the high digit first, and `-` for no bytes.
-ghost use Rattle.std.specs.Prelude.{◌≡◌, true, [], ◌∷◌, ◌+◌, ◌*◌, ◌/◌, ◌%◌, ◌≤◌, ◌<◌, length};
-ghost use Rattle.text.specs.Hex.{Reads, HexReadsBack, digit_value, are_digits, pair_bytes, readable, read_hex, hex_digit, hex_digits, hex_of};
-ghost use Rattle.text.specs.Text.{Puts};
+ghost use Rattle.std.specs.Prelude.{◌≡◌, [], ◌∷◌, ◌/◌, ◌%◌, ◌<◌, ◌≤◌, IfSome, length, is_some};
+ghost use Rattle.text.specs.Hex.{Reads, HexReadsBack, digit_value, byte_of, pair_bytes, read_hex, hex_digit, hex_of};
+ghost use Rattle.text.specs.Text.{Prints};
 
-use crate::text::put;
+use crate::text::Output;
 
-// A word that was read into a buffer: how many bytes stand at its front.
-#[derive(Clone, Copy)]
-pub enum Hex {
-    Unreadable,
-    Held(usize),
-}
-
-// The value of a hexadecimal digit, either case; 16 for any other byte.
-fn digit_value(byte: u8) -> u8
-    ensures { result ≡ digit_value byte }
+// The value of a hexadecimal digit, in either case.
+#[tactic(auto, using(base::proofs::Choice::picks), unfolding(crate::specs::Hex::digit_value))]
+fn digit_value(byte: u8) -> Option<u8>
+    ensures value { result ≡ digit_value byte }
+    ensures below { IfSome result (λ v. v < 16) }
 {
-    if byte < 48 {
-        return 16;
+    match byte {
+        b'0'..=b'9' => Some(byte - b'0'),
+        b'A'..=b'F' => Some(byte - b'A' + 10),
+        b'a'..=b'f' => Some(byte - b'a' + 10),
+        _ => None,
     }
-    if byte < 58 {
-        return byte - 48;
-    }
-    if byte < 65 {
-        return 16;
-    }
-    if byte < 71 {
-        return byte - 55;
-    }
-    if byte < 97 {
-        return 16;
-    }
-    if byte < 103 {
-        return byte - 87;
-    }
-    16
-}
-
-// Whether two bytes are hexadecimal digits.
-fn are_digits(high: u8, low: u8) -> bool
-    ensures { result ≡ are_digits high low }
-{
-    if digit_value(high) > 15 {
-        return false;
-    }
-    digit_value(low) <= 15
-}
-
-// Whether a word is pairs of hexadecimal digits.
-fn are_pairs(word: &[u8]) -> bool
-    ensures { result ≡ readable (pair_bytes word.now) }
-{
-    let mut i = 0;
-    while i < word.len() {
-        if i + 1 >= word.len() {
-            return false;
-        }
-        if are_digits(word[i], word[i + 1]) {
-            i = i + 2;
-        } else {
-            return false;
-        }
-    }
-    true
 }
 
 // The byte of two hexadecimal digits.
-fn byte_of(high: u8, low: u8) -> u8
-    requires { are_digits high low ≡ true }
-    ensures { result ≡ digit_value high * 16 + digit_value low }
+#[tactic(auto, using(base::proofs::Choice::cases), unfolding(crate::specs::Hex::byte_of, base::specs::Choice::case_option))]
+fn byte_of(high: u8, low: u8) -> Option<u8>
+    ensures { result ≡ byte_of high low }
 {
-    digit_value(high) * 16 + digit_value(low)
+    Some(digit_value(high)? * 16 + digit_value(low)?)
 }
 
-// Stores the bytes of pairs of hexadecimal digits at a buffer's front.
-fn store_pairs(word: &[u8], bytes: &mut [u8])
-    requires { (readable (pair_bytes word.now) ≡ true) × (length word.now / 2 ≤ length bytes.old) }
-    ensures { Reads (pair_bytes word.now) bytes.old bytes.new (Hex.Held (length word.now / 2)) }
+// Whether a word is pairs of hexadecimal digits.
+#[tactic(auto, using(crate::proofs::HexReading::checking))]
+fn are_pairs(word: &[u8]) -> bool
+    ensures { result ≡ is_some (pair_bytes word.now) }
 {
-    let mut i = 0;
-    while i < word.len() / 2 {
-        bytes[i] = byte_of(word[2 * i], word[2 * i + 1]);
-        i = i + 1;
+    for i in 0..word.len() / 2 {
+        if byte_of(word[2 * i], word[2 * i + 1]).is_none() {
+            return false;
+        }
     }
+    word.len() % 2 == 0
 }
 
 // Reads pairs of hexadecimal digits into a buffer.
-fn read_pairs(word: &[u8], bytes: &mut [u8]) -> Hex
-    ensures { Reads (pair_bytes word.now) bytes.old bytes.new result }
+#[tactic(auto, using(crate::proofs::HexReading::storing))]
+fn read_pairs(word: &[u8], bytes: &mut [u8]) -> Option<usize>
+    ensures read { Reads (pair_bytes word.now) bytes.old bytes.new result }
+    ensures within { IfSome result (λ n. n ≤ length bytes.new) }
 {
-    if word.len() / 2 > bytes.len() {
-        return Hex::Unreadable;
+    let len = word.len() / 2;
+    if len > bytes.len() || !are_pairs(word) {
+        return None;
     }
-    if are_pairs(word) {
-        store_pairs(word, bytes);
-        return Hex::Held(word.len() / 2);
+    for i in 0..len {
+        bytes[i] = byte_of(word[2 * i], word[2 * i + 1]).unwrap();
     }
-    Hex::Unreadable
+    Some(len)
 }
 
 // Reads a word of hexadecimal digits, or `-`, into a buffer; where it is neither, or has more bytes than the buffer, that is left as it
 // came.
-pub fn read_hex(word: &[u8], bytes: &mut [u8]) -> Hex
-    ensures { Reads (read_hex word.now) bytes.old bytes.new result }
+pub fn read_hex(word: &[u8], bytes: &mut [u8]) -> Option<usize>
+    ensures read { Reads (read_hex word.now) bytes.old bytes.new result }
+    ensures within { IfSome result (λ n. n ≤ length bytes.new) }
 {
-    if word.len() == 0 {
-        return Hex::Unreadable;
+    match word {
+        b"-" => Some(0),
+        [_, _, ..] => read_pairs(word, bytes),
+        _ => None,
     }
-    if word.len() > 1 {
-        return read_pairs(word, bytes);
-    }
-    if word[0] == b'-' {
-        return Hex::Held(0);
-    }
-    Hex::Unreadable
 }
 
 // The hexadecimal digit of a value below 16, in lower case.
+#[tactic(auto, using(base::proofs::Choice::picks), unfolding(crate::specs::Hex::hex_digit))]
 fn digit(value: u8) -> u8
     requires { value < 16 }
     ensures { result ≡ hex_digit value }
 {
     if value < 10 {
-        return 48 + value;
+        b'0' + value
+    } else {
+        b'a' + value - 10
     }
-    87 + value
 }
 
-// Puts the digits of a byte.
-fn put_byte(out: &mut [u8], at: usize, byte: u8) -> usize
-    ensures { Puts out.old at (hex_digit (byte / 16) ∷ hex_digit (byte % 16) ∷ []) out.new result }
-{
-    let next = put(out, at, digit(byte / 16));
-    put(out, next, digit(byte % 16))
-}
-
-// Puts the digits of bytes.
-fn put_digits(out: &mut [u8], from: usize, bytes: &[u8]) -> usize
-    ensures { Puts out.old from (hex_digits bytes.now) out.new result }
-{
-    let mut at = from;
-    let mut i = 0;
-    while i < bytes.len() {
-        at = put_byte(out, at, bytes[i]);
-        i = i + 1;
+impl Output<'_> {
+    // Puts the digits of a byte.
+    #[tactic(auto, unfolding(crate::specs::Text::put_bytes))]
+    fn put_byte(&mut self, byte: u8)
+        ensures { Prints self.old (hex_digit (byte / 16) ∷ hex_digit (byte % 16) ∷ []) self.new }
+    {
+        let (high, low) = (byte / 16, byte % 16);
+        self.put(digit(high));
+        self.put(digit(low));
     }
-    at
-}
 
-// Puts bytes in hexadecimal digits, or `-` where there are none.
-pub fn put_hex(out: &mut [u8], at: usize, bytes: &[u8]) -> usize
-    ensures { Puts out.old at (hex_of bytes.now) out.new result }
-{
-    if bytes.len() == 0 {
-        return put(out, at, b'-');
+    // Puts bytes in hexadecimal digits, or `-` where there are none.
+    #[tactic(auto, using(crate::proofs::HexWriting::writing))]
+    pub fn put_hex(&mut self, bytes: &[u8])
+        ensures { Prints self.old (hex_of bytes.now) self.new }
+    {
+        if bytes.is_empty() {
+            self.put(b'-');
+            return;
+        }
+        for byte in bytes {
+            self.put_byte(*byte);
+        }
     }
-    put_digits(out, at, bytes)
 }
 
 // What holds of every word and of all bytes.
+#[tactic(auto, using(crate::proofs::HexLaws::hex_reads_back))]
 pub fn laws()
     ensures reads_back { HexReadsBack }
 {}

@@ -1,62 +1,73 @@
-// Text put into a buffer from a position on. Each function answers the position after what it put; what does not fit
-// is left out.
-ghost use Rattle.std.specs.Prelude.{◌≡◌, [], ◌∷◌, length};
+// Text put into a lent buffer. What does not fit is left out.
+ghost use Rattle.std.specs.Prelude.{◌≡◌, [], ◌∷◌, take};
 ghost use Rattle.text.specs.Number.{ReadsBack, Spelt, digits_of};
-ghost use Rattle.text.specs.Text.{Puts, Stands};
+ghost use Rattle.text.specs.Text.{Prints, Stands};
 
-// Puts a byte.
-pub fn put(out: &mut [u8], at: usize, byte: u8) -> usize
-    ensures { Puts out.old at (byte ∷ []) out.new result }
-{
-    if at < out.len() {
-        out[at] = byte;
-        return at + 1;
-    }
-    at
+// A buffer, and the position after what was put into it.
+#[derive(Drop)]
+pub struct Output<'a> {
+    pub buffer: &'a mut [u8],
+    pub at: usize,
 }
 
-// Puts bytes.
-pub fn put_text(out: &mut [u8], from: usize, text: &[u8]) -> usize
-    ensures { Puts out.old from text.now out.new result }
-{
-    let mut at = from;
-    let mut i = 0;
-    while i < text.len() {
-        at = put(out, at, text[i]);
-        i = i + 1;
-    }
-    at
-}
-
-// Puts a number's decimal digits at the end of twenty bytes, and answers where they start.
-fn spell(digits: &mut [u8], n: u64) -> usize
-    requires { length digits.old ≡ 20 }
+// Spells a number's decimal digits at the end of twenty bytes, and answers where they start.
+#[tactic(auto, using(crate::proofs::Digits::spelling))]
+fn spell(digits: &mut [u8; 20], n: u64) -> usize
     ensures { Spelt n digits.new result }
 {
-    let mut i = 20;
     let mut rest = n;
-    while i > 0 {
-        i = i - 1;
-        digits[i] = 48 + (rest % 10) as u8;
-        rest = rest / 10;
+    for i in (0..20).rev() {
+        digits[i] = b'0' + (rest % 10) as u8;
+        rest /= 10;
         if rest == 0 {
             return i;
         }
     }
-    i
+    0
 }
 
-// Puts a space and a number.
-pub fn put_number(out: &mut [u8], at: usize, n: u64) -> usize
-    ensures { Puts out.old at (32 ∷ digits_of n) out.new result }
-{
-    let mut digits = [0u8; 20];
-    let start = spell(&mut digits, n);
-    let next = put(out, at, b' ');
-    put_text(out, next, &digits[start..])
+impl Output<'_> {
+    // The bytes in front of the position.
+    pub fn text(&self) -> &[u8]
+        ensures { result.now ≡ take self.now.at self.now.buffer.now }
+    {
+        &self.buffer[..self.at.min(self.buffer.len())]
+    }
+
+    // Puts a byte.
+    #[tactic(auto, using(crate::proofs::Putting::one))]
+    pub fn put(&mut self, byte: u8)
+        ensures { Prints self.old (byte ∷ []) self.new }
+    {
+        if self.at < self.buffer.len() {
+            self.buffer[self.at] = byte;
+            self.at += 1;
+        }
+    }
+
+    // Puts bytes.
+    #[tactic(auto, using(crate::proofs::Putting::putting))]
+    pub fn put_text(&mut self, text: &[u8])
+        ensures { Prints self.old text.now self.new }
+    {
+        for byte in text {
+            self.put(*byte);
+        }
+    }
+
+    // Puts a space and a number.
+    pub fn put_number(&mut self, n: u64)
+        ensures { Prints self.old (32 ∷ digits_of n) self.new }
+    {
+        let mut digits = [0u8; 20];
+        let start = spell(&mut digits, n);
+        self.put(b' ');
+        self.put_text(&digits[start..]);
+    }
 }
 
 // What holds of every number and text.
+#[tactic(auto, using(crate::proofs::Digits::reads_back, crate::proofs::Putting::stands))]
 pub fn laws()
     ensures reads_back { ReadsBack }
     ensures stands { Stands }

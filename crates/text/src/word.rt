@@ -1,121 +1,76 @@
 // Words and decimal numbers of a line. A position stands at a word's first byte or at the line's end.
-ghost use Rattle.std.specs.Prelude.{◌≡◌, length};
-ghost use Rattle.text.specs.Place.{Onward};
+ghost use Rattle.std.specs.Prelude.{◌≡◌, ◌<◌, ◌≤◌, IfSome, length};
 ghost use Rattle.text.specs.Number.{with_digit, number_of};
-
-// A number that may not be readable.
-#[derive(Clone, Copy)]
-pub enum Number {
-    Unreadable,
-    Value(u64),
-}
-
-// A field of a line, and the position after it.
-#[derive(Clone, Copy)]
-pub enum Field {
-    Unread,
-    Read(u64, usize),
-}
+ghost use Rattle.text.specs.Place.{Onward};
 
 // Whether a byte separates words.
 fn is_space(byte: u8) -> bool {
-    match byte {
-        b' ' | b'\t' | b'\r' => true,
-        _ => false,
+    matches!(byte, b' ' | b'\t' | b'\r')
+}
+
+// The position of the first byte from here on at which to stop, or the end.
+fn first_from<F: Fn(u8) -> bool + Drop>(line: &[u8], from: usize, stops: F) -> usize
+    requires { F.IsAlwaysCallable stops }
+    ensures { Onward from (length line.now) result }
+{
+    for at in from..line.len() {
+        if stops(line[at]) {
+            return at;
+        }
     }
+    line.len().max(from)
 }
 
 // The position of the first word from here on.
 pub fn skip_spaces(line: &[u8], from: usize) -> usize
     ensures { Onward from (length line.now) result }
 {
-    let mut at = from;
-    while at < line.len() {
-        if is_space(line[at]) {
-            at = at + 1;
-        } else {
-            return at;
-        }
-    }
-    at
+    first_from(line, from, |byte| !is_space(byte))
 }
 
 // The end of the word that starts here.
 pub fn word_end(line: &[u8], from: usize) -> usize
     ensures { Onward from (length line.now) result }
 {
-    let mut at = from;
-    while at < line.len() {
-        if is_space(line[at]) {
-            return at;
-        }
-        at = at + 1;
-    }
-    at
-}
-
-// Whether two words are the same.
-pub fn same(a: &[u8], b: &[u8]) -> bool {
-    if a.len() != b.len() {
-        return false;
-    }
-    let mut i = 0;
-    while i < a.len() {
-        if a[i] != b[i] {
-            return false;
-        }
-        i = i + 1;
-    }
-    true
+    first_from(line, from, is_space)
 }
 
 // A number with one more digit.
-fn with_digit(value: u64, byte: u8) -> Number
+#[tactic(auto, using(base::proofs::Choice::picks), unfolding(crate::specs::Number::with_digit))]
+fn with_digit(value: u64, byte: u8) -> Option<u64>
     ensures { result ≡ with_digit value byte }
 {
-    if byte < 48 {
-        return Number::Unreadable;
-    }
-    if byte > 57 {
-        return Number::Unreadable;
-    }
-    let digit = (byte - 48) as u64;
-    if value > 1844674407370955161 {
-        return Number::Unreadable;
-    }
-    if value * 10 > 18446744073709551615 - digit {
-        return Number::Unreadable;
-    }
-    Number::Value(value * 10 + digit)
+    let digit = match byte {
+        b'0'..=b'9' => byte - b'0',
+        _ => return None,
+    };
+    value.checked_mul(10)?.checked_add(u64::from(digit))
 }
 
 // The decimal number that a word is: one or more digits, up to 2^64 - 1.
-pub fn number_of(word: &[u8]) -> Number
+#[tactic(auto, using(crate::proofs::Digits::counting))]
+pub fn number_of(word: &[u8]) -> Option<u64>
     ensures { result ≡ number_of word.now }
 {
-    if word.len() == 0 {
-        return Number::Unreadable;
+    if word.is_empty() {
+        return None;
     }
     let mut value = 0;
-    let mut i = 0;
-    while i < word.len() {
-        let Number::Value(more) = with_digit(value, word[i]) else {
-            return Number::Unreadable;
-        };
-        value = more;
-        i = i + 1;
+    for byte in word {
+        value = with_digit(value, *byte)?;
     }
-    Number::Value(value)
+    Some(value)
 }
 
-// Reads the number at a position.
-pub fn read_number(line: &[u8], at: usize) -> Field {
+// Reads the number at a position, and answers the position after it too.
+#[tactic(auto, using(crate::proofs::Digits::some_read))]
+pub fn read_number(line: &[u8], at: usize) -> Option<(u64, usize)>
+    ensures { IfSome result (λ read. (at < read.1) × (read.1 ≤ length line.now)) }
+{
     if at >= line.len() {
-        return Field::Unread;
+        return None;
     }
     let end = word_end(line, at);
-    let Number::Value(value) = number_of(&line[at..end]) else {
-        return Field::Unread;
-    };
-    Field::Read(value, skip_spaces(line, end))
+    let value = number_of(&line[at..end])?;
+    Some((value, skip_spaces(line, end)))
 }

@@ -10,7 +10,10 @@ use lib.Dec.{ltb, eqb}
 use lib.ListN.{length}
 use borrow.Author.Tests.{eqb-true, eqb-false, eq-eqb, ne_eqb}
 use Rattle.base.proofs.Choice.{known_choice}
-use Rattle.base.specs.Choice.{choose}
+use Rattle.base.specs.Choice.{choose, case_option, case_result}
+use Rattle.error.specs.declared.Error.TheVariants.{InvalidTime, InvalidArgument}
+use Rattle.error.specs.declared.Error.{Error}
+use Rattle.std.specs.Prelude.{Option, Result, Ok, Err}
 use Rattle.base.specs.Lists.{zeros}
 use Rattle.sessions.proofs.Laws.{fits_law}
 use Rattle.sessions.specs.Batch.{fits}
@@ -18,7 +21,7 @@ use Rattle.sessions.specs.Laws.{IsBatch}
 use Rattle.sessions.specs.Session.{time_limit}
 use Rattle.sessions.specs.Store.{whole}
 use Rattle.tunnel.specs.Answer.{number_of}
-use Rattle.tunnel.specs.Arguments.{opening_outcome, initiation_outcome, lacking, bad_outcome, bad_jitter, bad_batch, creation_number}
+use Rattle.tunnel.specs.Arguments.{opening_outcome, initiation_outcome, unnamed, lacking, bad_outcome, bad_jitter, bad_batch, creation_number}
 use Rattle.tunnel.specs.Numbers.{Always, FirstFailing, Timely, IsStore, OpeningNamed, InitiationNamed}
 use Rattle.tunnel.specs.Timers.{max_jitter, greatest_interval}
 use Rattle.tunnel.specs.Tunnel.{answered, new_tunnel, refused, Called, call_new}
@@ -29,10 +32,12 @@ use Rattle.tunnel.proofs.FirstFailing.{Tells, first_failing, never_fails, at_mos
 -- a creation
 pub new_by : (late big lack : Bool) (made none : Tunnel) (left store : List ℕ)
     → number_of
-    (choose {A = Called} (eqb (choose late 1 (choose big 2 (choose lack 2 0))) 0) (record { answered = answered made Done; store = left })
-    (record { answered = refused none (choose late 1 (choose big 2 (choose lack 2 0))); store = store })).answered.answer
+    (case_result {A = Called}
+    (choose {A = Result Unit Error} late (Err InvalidTime) (choose big (Err InvalidArgument) (choose lack (Err InvalidArgument) (Ok tt))))
+    (λ error. record { answered = refused none error; store = store })
+    (λ good. record { answered = answered made (Ok Done); store = left })).answered.answer
     ≡ choose late 1 (choose (choose big true lack) 2 (choose true (choose false 13 0) 14))
-unfolding choose refused number_of
+unfolding choose case_result refused number_of
 new_by true big lack made none left store = refl
 new_by false true lack made none left store = refl
 new_by false false true made none left store = refl
@@ -73,20 +78,23 @@ pub jittered : (jitter : ℕ) (store : List ℕ) → Tells (bad_jitter jitter st
 unfolding bad_jitter
 jittered jitter store = swapped _ (both (ltb max_jitter jitter) _ (at_most max_jitter jitter) (stored store))
 
-pub opening_named : (n : ℕ) → Tells (eqb (opening_outcome n) 2) false (OpeningNamed n)
-unfolding opening_outcome choose
+pub opening_named : (n : ℕ) → Tells (unnamed (opening_outcome n)) false (OpeningNamed n)
+unfolding opening_outcome unnamed case_option choose
 opening_named n =
     record {
-      to = known_choice (λ (k : ℕ). eqb k 2 ≡ false → OpeningNamed n) (eqb n 0) _ _ (λ e x. inl (eqb-true n 0 e))
-          (λ y. known_choice (λ (k : ℕ). eqb k 2 ≡ false → OpeningNamed n) (eqb n 7) _ _ (λ e x. inr (eqb-true n 7 e)) (λ e x. absurd (true≢false x)));
+      to = known_choice Named (eqb n 0) _ _ (λ e x. inl (eqb-true n 0 e))
+          (λ y. known_choice Named (eqb n 7) _ _ (λ e x. inr (eqb-true n 7 e)) (λ e x. absurd (true≢false x)));
       from = λ p. elim p [
         | inl e ↦ rw e refl
         | inr e ↦ rw e refl
       ];
     }
+  where
+    Named : Option (Result Unit Error) → Type 0
+    Named k = unnamed k ≡ false → OpeningNamed n
 
-pub initiation_named : (n : ℕ) → Tells (eqb (initiation_outcome n) 2) false (InitiationNamed n)
-unfolding initiation_outcome choose
+pub initiation_named : (n : ℕ) → Tells (unnamed (initiation_outcome n)) false (InitiationNamed n)
+unfolding initiation_outcome unnamed case_option choose
 initiation_named n =
     record {
       to = known_choice Named (eqb n 0) _ _ (λ e x. inl (eqb-true n 0 e))
@@ -103,13 +111,14 @@ initiation_named n =
       ];
     }
   where
-    Named : ℕ → Type 0
-    Named k = eqb k 2 ≡ false → InitiationNamed n
+    Named : Option (Result Unit Error) → Type 0
+    Named k = unnamed k ≡ false → InitiationNamed n
 
 -- an outcome that comes with a store
-pub of_outcome : (found : ℕ) (store : List ℕ) (named : Type 0) → Tells (eqb found 2) false named → Tells (bad_outcome found store) false (IsStore store × named)
+pub of_outcome : (found : Option (Result Unit Error)) (store : List ℕ) (named : Type 0) → Tells (unnamed found) false named
+    → Tells (bad_outcome found store) false (IsStore store × named)
 unfolding bad_outcome
-of_outcome found store named x = swapped _ (both (eqb found 2) _ x (stored store))
+of_outcome found store named x = swapped _ (both (unnamed found) _ x (stored store))
 
 pub new_first : (store : List ℕ) (index keepalive now : ℕ)
     → FirstFailing (number_of (call_new store index keepalive now).answered.answer) (Timely now) ((keepalive ≤ 65535) × IsStore store) Always Always Always

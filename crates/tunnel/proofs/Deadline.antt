@@ -2,7 +2,8 @@
 -- Assumes nothing.
 use mathlib.Core.Path.{◌≡◌, refl}
 use mathlib.Core.Bool.{true}
-use Rattle.base.specs.Choice.{choose}
+use Rattle.base.specs.Choice.{choose, case_result}
+use Rattle.std.specs.Prelude.{Ok}
 use Rattle.tunnel.specs.PollTimeout.{poll_timeout}
 use Rattle.tunnel.specs.declared.answer.Answer.TheVariants.{Deadline}
 use Rattle.tunnel.specs.Damage.{undamaged}
@@ -10,6 +11,6 @@ use Rattle.tunnel.specs.Tunnel.{timeless_gate, timeless, let_through, call_deadl
 use Rattle.tunnel.specs.declared.tunnel.Tunnel.{Tunnel}
 
 -- the answer of a deadline
-pub deadline_answer : (t : Tunnel) → undamaged t ≡ true → (call_deadline t).answer ≡ Deadline (poll_timeout t.control t.last_update)
-unfolding call_deadline timeless timeless_gate let_through choose
+pub deadline_answer : (t : Tunnel) → undamaged t ≡ true → (call_deadline t).answer ≡ Ok (Deadline (poll_timeout t.control t.last_update))
+unfolding call_deadline timeless timeless_gate let_through choose case_result
 deadline_answer t p = rw p refl

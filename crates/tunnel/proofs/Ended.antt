@@ -5,20 +5,16 @@ use mathlib.Core.Bool.{Bool, false, true≢false}
 use mathlib.Core.List.{List}
 use Prim.Native.Nat.{ℕ}
 use native.Mathlib.Omega.{arith}
-use lib.Dec.{eqb}
 use lib.ListN.{length}
-use borrow.Author.Tests.{eqb-true, eq-eqb}
-use Rattle.base.proofs.Choice.{known_choice, of_choice}
-use Rattle.base.specs.Choice.{choose}
+use borrow.Author.Tests.{eq-eqb}
+use Rattle.base.proofs.Choice.{known_choice, of_choice, known_result, known_results, of_option, of_pair, of_result}
+use Rattle.base.specs.Choice.{choose, case_option}
 use Rattle.sessions.proofs.Laws.{whole_law}
 use Rattle.sessions.specs.Batch.{Batched}
-use Rattle.sessions.specs.Cases.{case_selected, of_found, of_missing, of_reserved, known_received}
 use Rattle.sessions.specs.Sessions.{Held, put, current_of, new_sessions, emptied, clear, expire}
 use Rattle.sessions.specs.Store.{whole}
 use Rattle.sessions.specs.declared.batch.Progress.{Progress}
 use Rattle.sessions.specs.declared.session.Session.{Session}
-use Rattle.sessions.specs.declared.sessions.Found.TheVariants.{Nothing}
-use Rattle.sessions.specs.declared.sessions.Selected.TheVariants.{Unset}
 use Rattle.sessions.specs.declared.sessions.Sessions.{Sessions}
 use Rattle.tunnel.proofs.Framed.{gate_good}
 use Rattle.tunnel.proofs.BadArguments.{jittered}
@@ -28,8 +24,7 @@ use Rattle.tunnel.proofs.Steps.{of_expire}
 use Rattle.tunnel.proofs.Stores.{timeout_store}
 use Rattle.tunnel.proofs.Wakings.{WakingKeeps, of_wake, of_repeat}
 use Rattle.tunnel.specs.AfterStates.{NoneCurrent, ExpiredLaw}
-use Rattle.tunnel.specs.Arguments.{opening_outcome, initiation_outcome}
-use Rattle.tunnel.specs.Cases.{known_completed, known_cookie, of_datagram}
+use Rattle.tunnel.specs.Arguments.{opening_outcome, initiation_outcome, named_of}
 use Rattle.tunnel.specs.Control.{Turn, with_handshake, new_control, refuse, done, expired_control, queueing, poll_event, missing_report}
 use Rattle.tunnel.specs.Decapsulate.{confirm_first_session, accept, commit_decapsulate, begin_decapsulate}
 use Rattle.tunnel.specs.Encapsulate.{begin_encapsulate, finish_encapsulate, grant, encrypt_keepalive, send}
@@ -42,16 +37,16 @@ use Rattle.tunnel.specs.Tunnel.{new_tunnel, gate, refused, let_through, timed, t
 use Rattle.tunnel.specs.declared.control.Control.{Control}
 use Rattle.tunnel.specs.declared.control.Out.{Out}
 use Rattle.tunnel.specs.declared.encapsulate.Encrypted.{Encrypted}
-use Rattle.tunnel.specs.declared.handshake.Completed.TheVariants.{Opened}
-use Rattle.tunnel.specs.declared.handshake.Cookie.TheVariants.{Stored}
 use Rattle.tunnel.specs.declared.handshake.Handshake.{Handshake}
-use Rattle.tunnel.specs.declared.handshake.HandshakeState.TheVariants.{None, Expired}
+use Rattle.tunnel.specs.declared.handshake.HandshakeState.TheVariants.{None as NoHandshake, Expired}
 use Rattle.tunnel.specs.declared.tunnel.Answered.{Answered}
 use Rattle.tunnel.specs.declared.tunnel.Tunnel.{Tunnel}
+use Rattle.std.specs.Prelude.{None, Ok, Result}
+use Rattle.error.specs.declared.Error.{Error}
 
 -- a control, if expired, has no current session; what an operation hands back has such a one, or one that is not expired
 abbrev Ended : Control → Type 0
-Ended c = c.handshake.state ≡ Expired → current_of c.sessions ≡ Nothing
+Ended c = c.handshake.state ≡ Expired → current_of c.sessions ≡ None
 
 abbrev EndedOut : Out → Type 0
 EndedOut out = Ended out.control
@@ -84,12 +79,12 @@ start_ended c now h = of_choice EndedOut _ _ _ h (restart_ended c now h)
 -- data sent
 grant_living : (c : Control) (s : Session) (count now : ℕ) → Living c → LivingOut (grant c s count now)
 unfolding grant finish_encapsulate begin_encapsulate done
-grant_living c s count now l = of_reserved LivingOut _ _ _ l (λ n x. l)
+grant_living c s count now l = of_pair LivingOut _ _ _ l (λ n x. l)
 
 send_ended : (c : Control) (count now : ℕ) → Ended c → EndedOut (send c count now)
 unfolding send refuse
 send_ended c count now h =
-    unless_expired (λ (y : Out). y.control) c _ _ h (λ l. of_found LivingOut _ _ _ l (λ s. grant_living c s count now l))
+    unless_expired (λ (y : Out). y.control) c _ _ h (λ l. of_option LivingOut _ _ _ l (λ s. grant_living c s count now l))
 
 -- data received
 confirm_living : (c : Control) (started now : ℕ) → Living c → Living (confirm_first_session c started now)
@@ -105,29 +100,29 @@ receive_ended : (c : Control) (store : List ℕ) (index id now : ℕ) (counters 
 unfolding commit_decapsulate refuse done
 receive_ended c store index id now counters kinds verdicts skips h =
     unless_expired (λ (y : Batched Out). y.out.control) c _ _ h
-    (λ l. known_received LivingOut _ _ _ (λ n. l) (λ x p e. accept_living c x p index now l))
+    (λ l. known_results LivingOut _ _ _ (λ n. l) (λ x p e. accept_living c x p index now l))
 
 look_ended : (c : Control) (store : List ℕ) (index counter now : ℕ) → Ended c → EndedOut (begin_decapsulate c store index counter now)
 unfolding begin_decapsulate refuse
 look_ended c store index counter now h =
-    of_choice EndedOut _ _ _ h (of_found EndedOut _ _ _ h (λ s. of_choice EndedOut _ _ _ h (of_choice EndedOut _ _ _ h h)))
+    of_choice EndedOut _ _ _ h (of_option EndedOut _ _ _ h (λ s. of_choice EndedOut _ _ _ h (of_result EndedOut _ _ _ (λ e. h) (λ good. h))))
 
 missing_ended : (c : Control) (store : List ℕ) (index : ℕ) → Ended c → EndedOut (missing_report c store index)
 unfolding missing_report refuse
-missing_ended c store index h = of_missing EndedOut _ _ _ (λ n. h) (λ n. h)
+missing_ended c store index h = of_result EndedOut _ _ _ (λ n. h) (λ n. h)
 
 -- handshake messages
-answered_living : (h x : Handshake) (local peer outcome now : ℕ) (y : Session) → receive_handshake_initialization h local peer outcome now ≡ Opened x y
+answered_living : (h x : Handshake) (local peer : ℕ) (outcome : Result Unit Error) (now : ℕ) (y : Session) → receive_handshake_initialization h local peer outcome now ≡ Ok (x, y)
     → (h.state ≡ Expired → ⊥) → x.state ≡ Expired → ⊥
 unfolding append_mac1_and_mac2
-answered_living h x local peer outcome now y e l f = l (rw (← (initiation_opened h x local peer outcome now y e).0) at f)
+answered_living h x local peer outcome now y e l f = l (rw (← (initiation_opened h x outcome local peer now y e).0) at f)
 
-respond_living : (c : Control) (store : List ℕ) (local peer outcome now : ℕ) → Living c → LivingTurn (respond c store local peer outcome now)
+respond_living : (c : Control) (store : List ℕ) (local peer : ℕ) (outcome : Result Unit Error) (now : ℕ) → Living c → LivingTurn (respond c store local peer outcome now)
 unfolding respond responding refuse done
 respond_living c store local peer outcome now l =
-    known_completed LivingTurn _ _ _ (λ n. l) (λ x s e. answered_living c.handshake x local peer outcome now s e l)
+    known_results LivingTurn _ _ _ (λ n. l) (λ x s e. answered_living c.handshake x local peer outcome now s e l)
 
-initiation_ended : (c : Control) (store : List ℕ) (peer outcome now : ℕ) → Ended c → EndedOut (handle_handshake_initiation c store peer outcome now).out
+initiation_ended : (c : Control) (store : List ℕ) (peer : ℕ) (outcome : Result Unit Error) (now : ℕ) → Ended c → EndedOut (handle_handshake_initiation c store peer outcome now).out
 unfolding handle_handshake_initiation refuse
 initiation_ended c store peer outcome now h =
     unless_expired (λ (y : Turn). y.out.control) c _ _ h (λ l. respond_living _ store _ peer outcome now l)
@@ -135,49 +130,49 @@ initiation_ended c store peer outcome now h =
 keepalive_living : (c : Control) (now : ℕ) → Living c → Living (encrypt_keepalive c now).control
 unfolding encrypt_keepalive
 keepalive_living c now l =
-    of_found (λ (e : Encrypted). Living e.control) _ _ _ l (λ s. of_reserved (λ (e : Encrypted). Living e.control) _ _ _ l (λ n x. l))
+    of_option (λ (e : Encrypted). Living e.control) _ _ _ l (λ s. of_pair (λ (e : Encrypted). Living e.control) _ _ _ l (λ n x. l))
 
 establish_living : (c : Control) (local now : ℕ) → Living c → LivingOut (establish c local now)
 unfolding establish confirming refuse done
 establish_living c local now l =
-    of_datagram LivingOut _ _ _ (keepalive_living _ now (confirm_living _ _ now l)) (λ a b. keepalive_living _ now (confirm_living _ _ now l))
+    of_pair LivingOut _ _ _ (keepalive_living _ now (confirm_living _ _ now l)) (λ a b. keepalive_living _ now (confirm_living _ _ now l))
 
-opened_living : (h x : Handshake) (receiver peer outcome now : ℕ) (y : Session) → receive_handshake_response h receiver peer outcome now ≡ Opened x y
+opened_living : (h x : Handshake) (receiver peer : ℕ) (outcome : Result Unit Error) (now : ℕ) (y : Session) → receive_handshake_response h receiver peer outcome now ≡ Ok (x, y)
     → x.state ≡ Expired → ⊥
 opened_living h x receiver peer outcome now y e f =
-    let g : with_states h None None ≡ x = (response_opened h x receiver peer outcome now y e).0 in
-    let k : None ≡ Expired = rw (← g) at f in let z : ◌≡◌ {A = ℕ} 0 1 = cc in omega arith
+    let g : with_states h NoHandshake NoHandshake ≡ x = (response_opened h x outcome receiver peer now y e).0 in
+    let k : NoHandshake ≡ Expired = rw (← g) at f in cc
 
-response_ended : (c : Control) (store : List ℕ) (receiver peer outcome now : ℕ) → Ended c
+response_ended : (c : Control) (store : List ℕ) (receiver peer : ℕ) (outcome : Result Unit Error) (now : ℕ) → Ended c
     → EndedOut (handle_handshake_response c store receiver peer outcome now).out
 unfolding handle_handshake_response complete refuse
 response_ended c store receiver peer outcome now h =
     unless_expired (λ (y : Turn). y.out.control) c _ _ h
-    (λ l. known_completed LivingTurn _ _ _ (λ n. l)
+    (λ l. known_results LivingTurn _ _ _ (λ n. l)
     (λ x s e. establish_living _ receiver now (opened_living c.handshake x receiver peer outcome now s e)))
 
-stored_living : (h x : Handshake) (receiver outcome now : ℕ) → receive_cookie_reply h receiver outcome now ≡ Stored x → (h.state ≡ Expired → ⊥)
+stored_living : (h x : Handshake) (receiver : ℕ) (outcome : Result Unit Error) (now : ℕ) → receive_cookie_reply h receiver outcome now ≡ Ok x → (h.state ≡ Expired → ⊥)
     → x.state ≡ Expired → ⊥
-stored_living h x receiver outcome now e l f = l (rw (← cookie_stored h x receiver outcome now e) at f)
+stored_living h x receiver outcome now e l f = l (rw (← cookie_stored h x outcome receiver now e) at f)
 
-cookie_ended : (c : Control) (receiver outcome now : ℕ) → Ended c → EndedOut (handle_cookie_reply c receiver outcome now)
+cookie_ended : (c : Control) (receiver : ℕ) (outcome : Result Unit Error) (now : ℕ) → Ended c → EndedOut (handle_cookie_reply c receiver outcome now)
 unfolding handle_cookie_reply refuse done
 cookie_ended c receiver outcome now h =
     unless_expired (λ (y : Out). y.control) c _ _ h
-    (λ l. known_cookie LivingOut _ _ _ (λ n. l) (λ x e. stored_living c.handshake x receiver outcome now e l))
+    (λ l. known_result LivingOut _ _ _ (λ n. l) (λ x e. stored_living c.handshake x receiver outcome now e l))
 
 -- the waking: with a store of 1,024 words the steps leave an expired control with none selected
 abbrev Unselected : Control → Type 0
-Unselected c = c.handshake.state ≡ Expired → c.sessions.current ≡ Unset
+Unselected c = c.handshake.state ≡ Expired → c.sessions.current ≡ None
 
 record Waking (c : Control) (store : List ℕ) : Type 0 where
   long : length store ≡ 1024
   unselected : Unselected c
 
-cleared : (s : Sessions) (store : List ℕ) → length store ≡ 1024 → (clear s store).sessions.current ≡ Unset
+cleared : (s : Sessions) (store : List ℕ) → length store ≡ 1024 → (clear s store).sessions.current ≡ None
 unfolding clear
 cleared s store long =
-    known_choice (λ (y : Held). y.sessions.current ≡ Unset) (whole store) _ _ (λ e. refl)
+    known_choice (λ (y : Held). y.sessions.current ≡ None) (whole store) _ _ (λ e. refl)
     (λ e. absurd (true≢false (sym (eq-eqb (length store) 1024 long) ∙ e)))
 
 ends_unselected : (c : Control) (store : List ℕ) (now : ℕ) → Waking c store → Waking (expire_control c store now).control (expire_control c store now).store
@@ -188,21 +183,21 @@ ends_unselected c store now w =
 keepalive_unselected : (c : Control) (now : ℕ) → Unselected c → Unselected (encrypt_keepalive c now).control
 unfolding encrypt_keepalive put
 keepalive_unselected c now u =
-    of_found (λ (e : Encrypted). Unselected e.control) _ _ _ u
-    (λ s. of_reserved (λ (e : Encrypted). Unselected e.control) _ _ _ u (λ n x. u))
+    of_option (λ (e : Encrypted). Unselected e.control) _ _ _ u
+    (λ s. of_pair (λ (e : Encrypted). Unselected e.control) _ _ _ u (λ n x. u))
 
 keepalives_unselected : (c : Control) (now : ℕ) → Unselected c → Unselected (keepalive_if_due c now)
 unfolding keepalive_if_due send_keepalive queue_keepalive queueing
 keepalives_unselected c now u =
-    of_choice Unselected _ _ _ (of_datagram Unselected _ _ _ (keepalive_unselected _ now u) (λ a b. keepalive_unselected _ now u)) u
+    of_choice Unselected _ _ _ (of_pair Unselected _ _ _ (keepalive_unselected _ now u) (λ a b. keepalive_unselected _ now u)) u
 
 cookie_unselected : (c : Control) (now : ℕ) → Unselected c → Unselected (with_handshake c (expire_cookie c.handshake now))
 unfolding expire_cookie clear_cookie
 cookie_unselected c now u = of_choice (λ (h : Handshake). Unselected (with_handshake c h)) _ _ _ u u
 
-expire_unselected : (s : Sessions) (store : List ℕ) (now : ℕ) → s.current ≡ Unset → (expire s store now).expired.sessions.current ≡ Unset
+expire_unselected : (s : Sessions) (store : List ℕ) (now : ℕ) → s.current ≡ None → (expire s store now).expired.sessions.current ≡ None
 unfolding emptied
-expire_unselected s store now u = of_expire (λ (x : Sessions). x.current ≡ Unset) (λ x slot v. v) (λ x v. refl) s store now u
+expire_unselected s store now u = of_expire (λ (x : Sessions). x.current ≡ None) (λ x slot v. v) (λ x v. refl) s store now u
 
 sends_living : (c : Control) (now : ℕ) → Living (send_scheduled c now)
 unfolding send_scheduled queueing
@@ -222,8 +217,8 @@ waking_ends jitter now =
       };
     }
 
-none_current : (s : Sessions) → s.current ≡ Unset → current_of s ≡ Nothing
-unfolding current_of case_selected
+none_current : (s : Sessions) → s.current ≡ None → current_of s ≡ None
+unfolding current_of case_option
 none_current s u = rw u refl
 
 timeout_ended : (c : Control) (store : List ℕ) (jitter now : ℕ) → Ended c → length store ≡ 1024 → EndedOut (handle_timeout c store jitter now).out
@@ -244,7 +239,7 @@ settle_ended c store jitter now h long =
 
 -- a creation
 new_ended : (index keepalive now : ℕ) → NoneCurrent (new_tunnel index keepalive now)
-unfolding new_tunnel new_control new_sessions current_of case_selected
+unfolding new_tunnel new_control new_sessions current_of case_option
 new_ended index keepalive now e = refl
 
 -- the frames
@@ -252,28 +247,28 @@ module _ (t : Tunnel) (h : NoneCurrent t) where
   timed_ended : (bad : Bool) (now : ℕ) (out : Out) → (bad ≡ false → EndedOut out) → NoneCurrent (timed t bad now out).tunnel
   unfolding timed let_through refused
   timed_ended bad now out o =
-      known_choice (λ (a : Answered). NoneCurrent a.tunnel) (eqb (gate t bad now) 0) _ _ (λ e. o (gate_good t bad now (eqb-true _ 0 e))) (λ e. h)
+      known_result (λ (a : Answered). NoneCurrent a.tunnel) (gate t bad now) _ _ (λ error. h) (λ passed z. o (gate_good t bad now z))
 
   timeless_ended : (bad : Bool) (out : Out) → EndedOut out → NoneCurrent (timeless t bad out).tunnel
   unfolding timeless let_through refused
-  timeless_ended bad out o = of_choice (λ (a : Answered). NoneCurrent a.tunnel) _ _ _ o h
+  timeless_ended bad out o = of_result (λ (a : Answered). NoneCurrent a.tunnel) _ _ _ (λ error. h) (λ passed. o)
 
 -- each call
 pub stays_ended : (t : Tunnel) (store : List ℕ) → NoneCurrent t → ExpiredLaw t store
 unfolding call_new call_start call_restart call_send call_receive call_look call_initiation call_response call_cookie call_timeout call_settle call_event call_deadline call_missing timed_turn timed_batch refused poll_event
 stays_ended t store h =
     record {
-      new = λ index keepalive now. of_choice (λ (y : Called). NoneCurrent y.answered.tunnel) _ _ _ (new_ended index keepalive now) (new_ended 0 0 0);
+      new = λ index keepalive now. of_result (λ (y : Called). NoneCurrent y.answered.tunnel) _ _ _ (λ error. new_ended 0 0 0) (λ good. new_ended index keepalive now);
       start = λ now. timed_ended t h _ now _ (λ b. start_ended t.control now h);
       restart = λ now. timed_ended t h _ now _ (λ b. restart_ended t.control now h);
       send = λ count now. timed_ended t h _ now _ (λ b. send_ended t.control count now h);
       receive = λ index id now counters kinds verdicts skips.
           timed_ended t h _ now _ (λ b. receive_ended t.control store index id now counters kinds verdicts skips h);
       look = λ index counter now. timed_ended t h _ now _ (λ b. look_ended t.control store index counter now h);
-      initiation = λ peer outcome now. timed_ended t h _ now _ (λ b. initiation_ended t.control store peer (initiation_outcome outcome) now h);
+      initiation = λ peer outcome now. timed_ended t h _ now _ (λ b. initiation_ended t.control store peer (named_of (initiation_outcome outcome)) now h);
       response = λ receiver peer outcome now.
-          timed_ended t h _ now _ (λ b. response_ended t.control store receiver peer (opening_outcome outcome) now h);
-      cookie = λ receiver outcome now. timed_ended t h _ now _ (λ b. cookie_ended t.control receiver (opening_outcome outcome) now h);
+          timed_ended t h _ now _ (λ b. response_ended t.control store receiver peer (named_of (opening_outcome outcome)) now h);
+      cookie = λ receiver outcome now. timed_ended t h _ now _ (λ b. cookie_ended t.control receiver (named_of (opening_outcome outcome)) now h);
       timeout = λ jitter now. timed_ended t h _ now _ (λ b. timeout_ended t.control store jitter now h ((jittered jitter store).to b).0);
       settle = λ jitter now. timed_ended t h _ now _ (λ b. settle_ended t.control store jitter now h ((jittered jitter store).to b).0);
       event = timeless_ended t h _ _ h;

@@ -8,29 +8,27 @@ use lib.Dec.{ltb, leb}
 use lib.ListN.{length, get_or, set}
 use borrow.Author.Tests.{eq-eqb}
 use Rattle.base.proofs.Choice.{of_choice, known_choice}
-use Rattle.base.specs.Choice.{choose}
-use Rattle.sessions.specs.Cases.{case_time}
+use Rattle.base.specs.Choice.{choose, case_option}
 use Rattle.sessions.specs.Session.{due_by, least, earlier, empty_session, expires_at, expired_at}
 use Rattle.sessions.specs.Sessions.{Expiring, emptied, slot_at, expired_slot, discard, expire_slot, expire_first, expire, slot_expiry, first_expiry, next_expiry}
 use Rattle.sessions.specs.declared.session.Session.{Session}
-use Rattle.sessions.specs.declared.session.Time.TheVariants.{Never, At}
-use Rattle.sessions.specs.declared.session.Time.{Time}
 use Rattle.sessions.specs.declared.sessions.Expired.{Expired}
 use Rattle.sessions.specs.declared.sessions.Sessions.{Sessions}
 use Rattle.tunnel.proofs.Quiet.{neither}
 use Rattle.tunnel.proofs.Steps.{still_filled}
+use Rattle.std.specs.Prelude.{None, Option, Some}
 
 -- where neither of two deadlines has come, the earlier has not
-pub waits_both : (a b : Time) (now : ℕ) → due_by a now ≡ false → due_by b now ≡ false → due_by (earlier a b) now ≡ false
-unfolding due_by earlier case_time least
-waits_both Never b now p q = q
-waits_both (At a) Never now p q = p
-waits_both (At a) (At b) now p q = of_choice (λ (x : ℕ). leb x now ≡ false) (ltb b a) b a q p
+pub waits_both : (a b : Option ℕ) (now : ℕ) → due_by a now ≡ false → due_by b now ≡ false → due_by (earlier a b) now ≡ false
+unfolding due_by earlier case_option least
+waits_both None b now p q = q
+waits_both (Some a) None now p q = p
+waits_both (Some a) (Some b) now p q = of_choice (λ (x : ℕ). leb x now ≡ false) (ltb b a) b a q p
 
 -- the sessions after an expiry: none is due
 module _ (now : ℕ) where
-  not_due : (filled : Bool) (x : Session) → choose filled (expired_at x now) false ≡ false → due_by (choose filled (At (expires_at x)) Never) now ≡ false
-  unfolding choose due_by case_time expires_at expired_at
+  not_due : (filled : Bool) (x : Session) → choose filled (expired_at x now) false ≡ false → due_by (choose filled (Some (expires_at x)) None) now ≡ false
+  unfolding choose due_by case_option expires_at expired_at
   not_due true x p = p
   not_due false x p = refl
 
@@ -40,10 +38,10 @@ module _ (now : ℕ) where
 
   -- a slot's deadline, by the session in it
   abbrev Waits : Session → Type 0
-  Waits x = due_by (choose x.filled (At (expires_at x)) Never) now ≡ false
+  Waits x = due_by (choose x.filled (Some (expires_at x)) None) now ≡ false
 
   unfilled_waits : (x : Session) → x.filled ≡ false → Waits x
-  unfolding choose due_by case_time
+  unfolding choose due_by case_option
   unfilled_waits x e = rw e refl
 
   still_waits : (l : List Session) (slot k : ℕ) → Waits (get_or l k empty_session) → Waits (get_or (set l slot empty_session) k empty_session)
@@ -83,11 +81,11 @@ module _ (now : ℕ) where
   unfolding discard
   first_discarded e count p =
       of_choice (λ (x : Expired). FirstWait x.sessions (suc count)) _ _ _
-      (ap (λ (x : Time). due_by x now) (first_same _ (emptied e.sessions count) (suc count) refl) ∙ first_own e.sessions count p)
+      (ap (λ (x : Option ℕ). due_by x now) (first_same _ (emptied e.sessions count) (suc count) refl) ∙ first_own e.sessions count p)
       (first_own e.sessions count p)
 
   first_expired : (e : Expiring) (count : ℕ) → FirstWait (expire_first e count now).expired.sessions count
-  unfolding first_expiry expire_first expire_slot due_by case_time
+  unfolding first_expiry expire_first expire_slot due_by case_option
   first_expired e zero = refl
   first_expired e (suc count) =
       let p = first_expired e count in

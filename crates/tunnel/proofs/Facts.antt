@@ -8,35 +8,31 @@ use native.Mathlib.Omega.{arith}
 use native.Mathlib.Decide.{ℕ_discrete}
 use lib.Dec.{leb, eqb}
 use borrow.Author.Tests.{leb-true, le-leb, eqb-true, eq-eqb, ne_eqb}
-use Rattle.base.specs.Choice.{choose, ◌and◌}
-use Rattle.tunnel.specs.Damage.{stored_holds, control_holds, time_holds, state_holds, in_range, interval_holds, both_at_most, event_holds, queue_holds, events_hold, handshake_holds, packet_timers_hold, data_timers_hold, fields_hold, timers_hold, undamaged}
+use Rattle.base.specs.Choice.{choose, ◌and◌, case_option}
+use Rattle.tunnel.specs.Damage.{stored_holds, control_holds, time_holds, state_holds, in_range, interval_holds, event_holds, queue_holds, events_hold, handshake_holds, packet_timers_hold, data_timers_hold, fields_hold, timers_hold, undamaged}
 use Rattle.tunnel.specs.Facts.EventsWithin.{none, more}
 use Rattle.tunnel.specs.Facts.{SlotWithin, SessionsWithin, EventWithin, EventsWithin, QueueWithin, ControlWithin, Undamaged}
 use Rattle.tunnel.specs.declared.control.Control.{Control}
 use Rattle.sessions.specs.Damage.{slot_holds, slots_hold}
-use Rattle.tunnel.specs.Cases.{case_event, case_state, case_interval}
+use Rattle.tunnel.specs.Cases.{case_event, case_state}
 use Rattle.tunnel.specs.Handshake.{SentWithin, HandshakeWithin}
-use Rattle.tunnel.specs.RingBuffer.{queued}
+use Rattle.tunnel.specs.RingBuffer.{queued, RingWithin}
 use Rattle.tunnel.specs.Timers.{max_jitter, TimeWithin, IntervalWithin, TimersWithin}
-use Rattle.tunnel.specs.declared.event.Event.TheVariants.{Empty, SendHandshakeInitiation, SendKeepalive, Established, ConnectionExpired}
+use Rattle.tunnel.specs.declared.event.Event.TheVariants.{SendHandshakeInitiation, SendKeepalive, Established, ConnectionExpired}
 use Rattle.tunnel.specs.declared.event.Event.{Event}
 use Rattle.tunnel.specs.declared.handshake.Handshake.{Handshake}
-use Rattle.tunnel.specs.declared.handshake.HandshakeState.TheVariants.{None, InitSent, Expired}
+use Rattle.tunnel.specs.declared.handshake.HandshakeState.TheVariants.{None as NoHandshake, InitSent, Expired}
 use Rattle.tunnel.specs.declared.handshake.HandshakeState.{HandshakeState}
 use Rattle.tunnel.specs.declared.ring_buffer.RingBuffer.{RingBuffer}
-use Rattle.tunnel.specs.declared.timers.Interval.TheVariants.{Off, Every}
-use Rattle.tunnel.specs.declared.timers.Interval.{Interval}
 use Rattle.tunnel.specs.declared.timers.Timers.{Timers}
 use Rattle.sessions.specs.Index.{slot_of}
 use Rattle.sessions.specs.Session.{reject_after_messages, time_limit}
-use Rattle.sessions.specs.Cases.{case_time}
 use Rattle.sessions.specs.Sessions.{slot_at}
 use Rattle.sessions.specs.declared.session.Session.{Session}
-use Rattle.sessions.specs.declared.session.Time.TheVariants.{Never, At}
-use Rattle.sessions.specs.declared.session.Time.{Time}
 use Rattle.sessions.specs.declared.sessions.Sessions.{Sessions}
 use Rattle.tunnel.proofs.Later.{control_later}
 use Rattle.tunnel.specs.declared.tunnel.Tunnel.{Tunnel}
+use Rattle.std.specs.Prelude.{None, Option, Some}
 
 -- the two parts of a test that is true
 pub first : (a b : Bool) → (a and b) ≡ true → a ≡ true
@@ -65,26 +61,26 @@ either true h = h refl
 either false h = refl
 
 -- a present time
-time_facts : (time : Time) (most : ℕ) → time_holds time most ≡ true → TimeWithin time most
-unfolding time_holds case_time
-time_facts Never most h = record { within = λ at p. let z : ◌≡◌ {A = ℕ} 0 1 = cc in omega arith }
-time_facts (At x) most h = record { within = λ at p. let e : x ≡ at = cc in omega (arith, leb-true x most h) }
+time_facts : (time : Option ℕ) (most : ℕ) → time_holds time most ≡ true → TimeWithin time most
+unfolding time_holds case_option
+time_facts None most h = record { within = λ at p. let z : ◌≡◌ {A = ℕ} 0 1 = cc in omega arith }
+time_facts (Some x) most h = record { within = λ at p. let e : x ≡ at = cc in omega (arith, leb-true x most h) }
 
-time_holds_lem : (time : Time) (most : ℕ) → TimeWithin time most → time_holds time most ≡ true
-unfolding time_holds case_time
-time_holds_lem Never most w = refl
-time_holds_lem (At x) most w = le-leb x most (w.within x refl)
+time_holds_lem : (time : Option ℕ) (most : ℕ) → TimeWithin time most → time_holds time most ≡ true
+unfolding time_holds case_option
+time_holds_lem None most w = refl
+time_holds_lem (Some x) most w = le-leb x most (w.within x refl)
 
 -- an initiation
 state_facts : (state : HandshakeState) (most : ℕ) → state_holds state most ≡ true → SentWithin state most
 unfolding state_holds case_state
-state_facts None most h = record { within = λ local sent p. let z : ◌≡◌ {A = ℕ} 0 1 = cc in omega arith }
+state_facts NoHandshake most h = record { within = λ local sent p. let z : ◌≡◌ {A = ℕ} 0 1 = cc in omega arith }
 state_facts (InitSent x y) most h = record { within = λ local sent p. let e : y ≡ sent = cc in omega (arith, leb-true y most h) }
 state_facts Expired most h = record { within = λ local sent p. let z : ◌≡◌ {A = ℕ} 0 1 = cc in omega arith }
 
 state_holds_lem : (state : HandshakeState) (most : ℕ) → SentWithin state most → state_holds state most ≡ true
 unfolding state_holds case_state
-state_holds_lem None most w = refl
+state_holds_lem NoHandshake most w = refl
 state_holds_lem (InitSent x y) most w = le-leb y most (w.within x y refl)
 state_holds_lem Expired most w = refl
 
@@ -99,54 +95,54 @@ unfolding in_range choose
 range_holds zero l m = absurd (omega arith)
 range_holds (suc n) l m = rw (ne_eqb (suc n) 0 (λ e. omega arith)) (le-leb (suc n) 65535 m)
 
-interval_facts : (interval : Interval) → interval_holds interval ≡ true → IntervalWithin interval
-unfolding interval_holds case_interval
-interval_facts Off h =
+interval_facts : (interval : Option ℕ) → interval_holds interval ≡ true → IntervalWithin interval
+unfolding interval_holds case_option
+interval_facts None h =
     record { least = λ s p. let z : ◌≡◌ {A = ℕ} 0 1 = cc in omega arith; greatest = λ s p. let z : ◌≡◌ {A = ℕ} 0 1 = cc in omega arith }
-interval_facts (Every x) h =
+interval_facts (Some x) h =
     record {
       least = λ s p. let e : x ≡ s = cc in omega (arith, (range_facts x h).0);
       greatest = λ s p. let e : x ≡ s = cc in omega (arith, (range_facts x h).1);
     }
 
-interval_holds_lem : (interval : Interval) → IntervalWithin interval → interval_holds interval ≡ true
-unfolding interval_holds case_interval
-interval_holds_lem Off w = refl
-interval_holds_lem (Every x) w = range_holds x (w.least x refl) (w.greatest x refl)
+interval_holds_lem : (interval : Option ℕ) → IntervalWithin interval → interval_holds interval ≡ true
+unfolding interval_holds case_option
+interval_holds_lem None w = refl
+interval_holds_lem (Some x) w = range_holds x (w.least x refl) (w.greatest x refl)
 
 -- an event without times
-pub no_times : (event : Event) (most : ℕ) → ((a b : ℕ) → event ≡ Established a b → ⊥) → EventWithin event most
+pub no_times : (event : Option Event) (most : ℕ) → ((a b : ℕ) → event ≡ Some (Established a b) → ⊥) → EventWithin event most
 no_times event most h = record { started = λ a b p. absurd (h a b p); confirmed = λ a b p. absurd (h a b p) }
 
 -- an event
-event_facts : (event : Event) (most : ℕ) → event_holds event most ≡ true → EventWithin event most
-unfolding event_holds case_event both_at_most
-event_facts (Established x y) most h =
+event_facts : (event : Option Event) (most : ℕ) → event_holds event most ≡ true → EventWithin event most
+unfolding event_holds case_option case_event
+event_facts (Some (Established x y)) most h =
     record {
       started = λ a b p. let e : x ≡ a = cc in omega (arith, leb-true x most (first _ _ h));
       confirmed = λ a b p. let e : y ≡ b = cc in omega (arith, leb-true y most (second _ _ h));
     }
-event_facts Empty most h = no_times Empty most (λ a b p. let z : ◌≡◌ {A = ℕ} 0 1 = cc in omega arith)
-event_facts (SendHandshakeInitiation x) most h =
-    no_times (SendHandshakeInitiation x) most (λ a b p. let z : ◌≡◌ {A = ℕ} 0 1 = cc in omega arith)
-event_facts (SendKeepalive x y) most h = no_times (SendKeepalive x y) most (λ a b p. let z : ◌≡◌ {A = ℕ} 0 1 = cc in omega arith)
-event_facts ConnectionExpired most h = no_times ConnectionExpired most (λ a b p. let z : ◌≡◌ {A = ℕ} 0 1 = cc in omega arith)
+event_facts None most h = no_times None most (λ a b p. let z : ◌≡◌ {A = ℕ} 0 1 = cc in omega arith)
+event_facts (Some (SendHandshakeInitiation x)) most h =
+    no_times (Some (SendHandshakeInitiation x)) most (λ a b p. let z : ◌≡◌ {A = ℕ} 0 1 = cc in omega arith)
+event_facts (Some (SendKeepalive x y)) most h = no_times (Some (SendKeepalive x y)) most (λ a b p. let z : ◌≡◌ {A = ℕ} 0 1 = cc in omega arith)
+event_facts (Some ConnectionExpired) most h = no_times (Some ConnectionExpired) most (λ a b p. let z : ◌≡◌ {A = ℕ} 0 1 = cc in omega arith)
 
-event_holds_lem : (event : Event) (most : ℕ) → EventWithin event most → event_holds event most ≡ true
-unfolding event_holds case_event both_at_most
-event_holds_lem (Established x y) most w = joined (le-leb x most (w.started x y refl)) (le-leb y most (w.confirmed x y refl))
-event_holds_lem Empty most w = refl
-event_holds_lem (SendHandshakeInitiation x) most w = refl
-event_holds_lem (SendKeepalive x y) most w = refl
-event_holds_lem ConnectionExpired most w = refl
+event_holds_lem : (event : Option Event) (most : ℕ) → EventWithin event most → event_holds event most ≡ true
+unfolding event_holds case_option case_event
+event_holds_lem (Some (Established x y)) most w = joined (le-leb x most (w.started x y refl)) (le-leb y most (w.confirmed x y refl))
+event_holds_lem None most w = refl
+event_holds_lem (Some (SendHandshakeInitiation x)) most w = refl
+event_holds_lem (Some (SendKeepalive x y)) most w = refl
+event_holds_lem (Some ConnectionExpired) most w = refl
 
 -- the queued events
-queue_facts : (events : List Event) (most : ℕ) → queue_holds events most ≡ true → EventsWithin most events
+queue_facts : (events : List (Option Event)) (most : ℕ) → queue_holds events most ≡ true → EventsWithin most events
 unfolding queue_holds
 queue_facts [] most h = none
 queue_facts (event ∷ events) most h = more (event_facts event most (first _ _ h)) (queue_facts events most (second _ _ h))
 
-queue_holds_lem : (events : List Event) (most : ℕ) → EventsWithin most events → queue_holds events most ≡ true
+queue_holds_lem : (events : List (Option Event)) (most : ℕ) → EventsWithin most events → queue_holds events most ≡ true
 unfolding queue_holds
 queue_holds_lem [] most none = refl
 queue_holds_lem (event ∷ events) most (more w ws) = joined (event_holds_lem event most w) (queue_holds_lem events most ws)
@@ -321,3 +317,7 @@ within_limit t w = control_later t.greatest time_limit w.latest t.control w.cont
 -- the same where the code has made the test
 pub let_through_lem : (t : Tunnel) (f : Bool) → f ≡ undamaged t → f ≡ true → ControlWithin t.control time_limit
 let_through_lem t f e p = within_limit t (undamaged_facts t (sym e ∙ p))
+
+-- the ring of a tunnel that the test lets through
+pub sound_ring : (t : Tunnel) → undamaged t ≡ true → RingWithin t.control.events
+sound_ring t p = (within_limit t (undamaged_facts t p)).events.ring

@@ -6,7 +6,10 @@ use Prim.Native.Nat.{ℕ, ◌≤◌}
 use native.Mathlib.Omega.{arith}
 use lib.Dec.{ltb, eqb}
 use borrow.Author.Tests.{ltb-false, le-ltb}
-use Rattle.base.specs.Choice.{choose}
+use Rattle.base.specs.Choice.{choose, case_result}
+use Rattle.error.specs.declared.Error.TheVariants.{InvalidTime, InvalidArgument, ClockWentBack, DamagedState}
+use Rattle.error.specs.declared.Error.{Error}
+use Rattle.std.specs.Prelude.{Result, Ok, Err}
 use Rattle.sessions.specs.Session.{time_limit}
 use Rattle.tunnel.proofs.Facts.{undamaged_facts, undamaged_holds}
 use Rattle.tunnel.specs.Answer.{number_of}
@@ -100,10 +103,12 @@ its_undamaged t = record { to = undamaged_facts t; from = undamaged_holds t }
 -- the number that a frame answers
 pub timed_by : (late bad firm back : Bool) (t : Tunnel) (now : ℕ) (out : Out)
     → number_of
-    (choose (eqb (choose late 1 (choose bad 2 (choose firm (choose back 13 0) 14))) 0) (let_through t now out)
-    (refused t (choose late 1 (choose bad 2 (choose firm (choose back 13 0) 14))))).answer
+    (case_result
+    (choose {A = Result Unit Error} late (Err InvalidTime) (choose bad (Err InvalidArgument) (choose firm (choose back (Err ClockWentBack) (Ok tt)) (Err DamagedState))))
+    (refused t)
+    (λ good. let_through t now out)).answer
     ≡ choose late 1 (choose bad 2 (choose firm (choose back 13 (number_of out.answer)) 14))
-unfolding choose let_through refused number_of
+unfolding choose case_result let_through refused number_of
 timed_by true bad firm back t now out = refl
 timed_by false true firm back t now out = refl
 timed_by false false false back t now out = refl
@@ -111,9 +116,9 @@ timed_by false false true true t now out = refl
 timed_by false false true false t now out = refl
 
 pub timeless_by : (bad firm : Bool) (t : Tunnel) (out : Out)
-    → number_of (choose (eqb (choose bad 2 (choose firm 0 14)) 0) (let_through t 0 out) (refused t (choose bad 2 (choose firm 0 14)))).answer
+    → number_of (case_result (choose {A = Result Unit Error} bad (Err InvalidArgument) (choose firm (Ok tt) (Err DamagedState))) (refused t) (λ good. let_through t 0 out)).answer
     ≡ choose false 1 (choose bad 2 (choose firm (choose false 13 (number_of out.answer)) 14))
-unfolding choose let_through refused number_of
+unfolding choose case_result let_through refused number_of
 timeless_by true firm t out = refl
 timeless_by false false t out = refl
 timeless_by false true t out = refl

@@ -1,4 +1,4 @@
--- Every step of the timers, the handshake and the ring keeps the facts of number 14.
+-- Some step of the timers, the handshake and the ring keeps the facts of number 14.
 -- Assumes nothing.
 use mathlib.Core.Path.{◌≡◌, refl}
 use mathlib.Core.Bool.{Bool, true, false}
@@ -6,39 +6,36 @@ use mathlib.Core.List.{List, [], ◌∷◌, ◌++◌}
 use Prim.Native.Nat.{ℕ, zero, suc, ◌+◌, ◌-◌, ◌≤◌}
 use native.Mathlib.Omega.{arith}
 use lib.ListN.{length, drop}
-use Rattle.base.specs.Choice.{choose}
+use Rattle.base.specs.Choice.{choose, case_option}
 use Rattle.tunnel.specs.Facts.EventsWithin.{none, more}
 use Rattle.tunnel.specs.Facts.{EventWithin, EventsWithin, QueueWithin}
 use Rattle.tunnel.proofs.Queue.{queue_of_newest}
 use Rattle.tunnel.specs.Handshake.{SentWithin, HandshakeWithin, new_handshake, set_expired, clear_cookie, append_mac1_and_mac2, initiate_handshake, with_states, with_cookies, tracking}
 use Rattle.tunnel.specs.RingBuffer.{new_ring, push_back, pop_front, newest, Ring}
-use Rattle.tunnel.specs.Timers.{max_jitter, TimeWithin, IntervalWithin, TimersWithin, new_timers, clear_timers, time_or, tick_last_handshake_completed, tick_last_handshake_started, tick_last_packet_received, tick_last_packet_sent, tick_last_data_packet_received, tick_last_data_packet_sent, tick_persistent_keepalive, schedule_handshake, cancel_scheduled_handshake, consume_passive_keepalive, tick_accepted, tick_response, tick_completed, tick_initiation}
+use Rattle.tunnel.specs.Timers.{max_jitter, TimeWithin, IntervalWithin, TimersWithin, new_timers, clear_timers, tick_last_handshake_completed, tick_last_handshake_started, tick_last_packet_received, tick_last_packet_sent, tick_last_data_packet_received, tick_last_data_packet_sent, tick_persistent_keepalive, schedule_handshake, cancel_scheduled_handshake, consume_passive_keepalive, tick_accepted, tick_response, tick_completed, tick_initiation}
 use Rattle.tunnel.specs.declared.event.Event.{Event}
 use Rattle.tunnel.specs.declared.handshake.Handshake.{Handshake}
-use Rattle.tunnel.specs.declared.handshake.HandshakeState.TheVariants.{None, InitSent, Expired}
+use Rattle.tunnel.specs.declared.handshake.HandshakeState.TheVariants.{None as NoHandshake, InitSent, Expired}
 use Rattle.tunnel.specs.declared.ring_buffer.RingBuffer.{RingBuffer}
-use Rattle.tunnel.specs.declared.timers.Interval.{Interval}
 use Rattle.tunnel.specs.declared.timers.Timers.{Timers}
-use Rattle.sessions.specs.Cases.{case_time}
-use Rattle.sessions.specs.declared.session.Time.TheVariants.{Never, At}
-use Rattle.sessions.specs.declared.session.Time.{Time}
+use Rattle.std.specs.Prelude.{None, Option, Some, unwrap_or}
 
 -- no time, and a time within the bound
-pub never_within : (most : ℕ) → TimeWithin Never most
+pub never_within : (most : ℕ) → TimeWithin None most
 never_within most = record { within = λ at p. let z : ◌≡◌ {A = ℕ} 0 1 = cc in omega arith }
 
-at_within : (time most : ℕ) → time ≤ most → TimeWithin (At time) most
+at_within : (time most : ℕ) → time ≤ most → TimeWithin (Some time) most
 at_within time most h = record { within = λ at p. let e : time ≡ at = cc in omega arith }
 
-pub get_or_within : (time : Time) (now most : ℕ) → TimeWithin time most → now ≤ most → time_or time now ≤ most
-unfolding time_or case_time
-get_or_within Never now most w h = h
-get_or_within (At x) now most w h = w.within x refl
+pub get_or_within : (time : Option ℕ) (now most : ℕ) → TimeWithin time most → now ≤ most → unwrap_or time now ≤ most
+unfolding case_option
+get_or_within None now most w h = h
+get_or_within (Some x) now most w h = w.within x refl
 
-pub first_within : (time : Time) (now most : ℕ) → TimeWithin time most → now ≤ most → TimeWithin (At (time_or time now)) most
-first_within time now most w h = at_within (time_or time now) most (get_or_within time now most w h)
+pub first_within : (time : Option ℕ) (now most : ℕ) → TimeWithin time most → now ≤ most → TimeWithin (Some (unwrap_or time now)) most
+first_within time now most w h = at_within (unwrap_or time now) most (get_or_within time now most w h)
 
-pub on_new : (interval : Interval) (now most : ℕ) → IntervalWithin interval → now ≤ most → TimersWithin (new_timers interval now) most
+pub on_new : (interval : Option ℕ) (now most : ℕ) → IntervalWithin interval → now ≤ most → TimersWithin (new_timers interval now) most
 unfolding new_timers
 on_new interval now most w h = search never_within
 
@@ -110,7 +107,7 @@ module _ (t : Timers) (most now : ℕ) (w : TimersWithin t most) (h : now ≤ mo
   on_initiation false = search (on_sent, on_started)
 
 -- no initiation, and an initiation sent within the bound
-none_within : (most : ℕ) → SentWithin None most
+none_within : (most : ℕ) → SentWithin NoHandshake most
 none_within most = record { within = λ local sent p. let z : ◌≡◌ {A = ℕ} 0 1 = cc in omega arith }
 
 expired_within : (most : ℕ) → SentWithin Expired most
@@ -141,24 +138,24 @@ module _ (h : Handshake) (most : ℕ) (w : HandshakeWithin h most) where
   on_initiate local now l = search sent_within
 
   -- the handshake after a response, and after a cookie reply
-  pub on_both_none : HandshakeWithin (with_states h None None) most
+  pub on_both_none : HandshakeWithin (with_states h NoHandshake NoHandshake) most
   on_both_none = search none_within
 
-  pub on_cookie : (index now : ℕ) → now ≤ most → HandshakeWithin (with_cookies h (tracking false index (At now))) most
+  pub on_cookie : (index now : ℕ) → now ≤ most → HandshakeWithin (with_cookies h (tracking false index (Some now))) most
   on_cookie index now l = search at_within
 
 -- the events of two lists, and those after the first
 module _ (most : ℕ) where
-  events_append : (xs ys : List Event) → EventsWithin most xs → EventsWithin most ys → EventsWithin most (xs ++ ys)
+  events_append : (xs ys : List (Option Event)) → EventsWithin most xs → EventsWithin most ys → EventsWithin most (xs ++ ys)
   events_append [] ys none v = v
   events_append (x ∷ xs) ys (more w ws) v = more w (events_append xs ys ws v)
 
-  events_drop : (n : ℕ) (xs : List Event) → EventsWithin most xs → EventsWithin most (drop n xs)
+  events_drop : (n : ℕ) (xs : List (Option Event)) → EventsWithin most xs → EventsWithin most (drop n xs)
   events_drop zero xs w = w
   events_drop (suc n) [] none = none
   events_drop (suc n) (x ∷ xs) (more w ws) = events_drop n xs ws
 
-  events_newest : (xs : List Event) → EventsWithin most xs → EventsWithin most (newest xs)
+  events_newest : (xs : List (Option Event)) → EventsWithin most xs → EventsWithin most (newest xs)
   unfolding newest
   events_newest xs w = events_drop (length xs - 16) xs w
 
@@ -169,7 +166,7 @@ module _ (most : ℕ) where
     whole : Ring r
     whole = record { places = long; within = w.ring }
 
-    pub on_push : (event : Event) → EventWithin event most → QueueWithin (push_back r event) most
+    pub on_push : (event : Event) → EventWithin (Some event) most → QueueWithin (push_back r event) most
     on_push event v =
         record {
           ring = (queue_of_newest.still r event whole).within;

@@ -4,9 +4,7 @@ use mathlib.Core.Path.{◌≡◌, refl}
 use mathlib.Core.Bool.{Bool, true, false}
 use mathlib.Core.List.{List}
 use Prim.Native.Nat.{ℕ}
-use Rattle.tunnel.specs.Cases.{known_completed, known_cookie, of_datagram}
-use Rattle.sessions.specs.Cases.{of_missing, of_found, of_reserved, known_received}
-use Rattle.base.proofs.Choice.{of_choice}
+use Rattle.base.proofs.Choice.{of_choice, known_result, known_results, of_option, of_pair, of_result}
 use Rattle.base.specs.Choice.{choose}
 use Rattle.tunnel.specs.PollTimeout.{scheduled_handshake}
 use Rattle.tunnel.specs.Control.{Turn, refuse, done, queueing, missing_report, with_timers}
@@ -21,7 +19,6 @@ use Rattle.tunnel.specs.declared.control.Control.{Control}
 use Rattle.tunnel.specs.declared.control.Out.{Out}
 use Rattle.tunnel.specs.declared.encapsulate.Encrypted.{Encrypted}
 use Rattle.tunnel.specs.Timers.{clear_timers, tick_last_handshake_completed, tick_last_handshake_started, tick_last_packet_received, tick_last_packet_sent, tick_last_data_packet_received, tick_last_data_packet_sent, tick_persistent_keepalive, schedule_handshake, cancel_scheduled_handshake, consume_passive_keepalive, tick_response, tick_completed, tick_initiation, tick_accepted}
-use Rattle.tunnel.specs.declared.timers.Interval.{Interval}
 use Rattle.tunnel.specs.declared.timers.Timers.{Timers}
 use Rattle.sessions.specs.declared.batch.Progress.{Progress}
 use Rattle.sessions.specs.declared.session.Session.{Session}
@@ -33,9 +30,11 @@ use Rattle.tunnel.proofs.Steps.{of_expire}
 use Rattle.tunnel.proofs.Wakings.{WakingKeeps, of_unsent, of_repeat}
 use Rattle.tunnel.specs.HandleTimeout.{clear_all, expire_control, scheduling, queue_keepalive, passive_timers, keepalive_timers, send_keepalive, keepalive_if_due, send_scheduled, handle_due, handle_timeout}
 use Rattle.tunnel.specs.Settle.{settle}
+use Rattle.std.specs.Prelude.{Option, Result}
+use Rattle.error.specs.declared.Error.{Error}
 
 -- the persistent keepalive's setting, in timers, in a control and in what holds one
-module _ (interval : Interval) where
+module _ (interval : Option ℕ) where
   abbrev pub OfTimers : Timers → Type 0
   OfTimers t = t.persistent_keepalive ≡ interval
 
@@ -69,9 +68,9 @@ module _ (interval : Interval) where
   unfolding send_scheduled queueing cancel_scheduled_handshake
   on_scheduled c now h = on_initiate _ now h
 
-  pub on_incoming : (c : Control) (store : List ℕ) (peer outcome now : ℕ) → Set c → SetTurn (handle_handshake_initiation c store peer outcome now)
+  pub on_incoming : (c : Control) (store : List ℕ) (peer : ℕ) (outcome : Result Unit Error) (now : ℕ) → Set c → SetTurn (handle_handshake_initiation c store peer outcome now)
   unfolding handle_handshake_initiation respond responding refuse done tick_response tick_last_handshake_completed tick_last_packet_sent tick_last_packet_received
-  on_incoming c store peer outcome now h = of_choice SetTurn _ _ _ h (known_completed SetTurn _ _ _ (λ n. h) (λ x s e. h))
+  on_incoming c store peer outcome now h = of_choice SetTurn _ _ _ h (known_results SetTurn _ _ _ (λ n. h) (λ x s e. h))
 
 -- the index last allocated, in sessions
 module _ (last : ℕ) where
@@ -84,7 +83,7 @@ module _ (last : ℕ) where
 
   on_current : (s : Sessions) (index : ℕ) → Last s → Last (set_current s index)
   unfolding set_current select
-  on_current s index h = of_choice Last _ _ _ h (of_found Last _ _ _ h (λ x. of_found Last _ _ _ h (λ y. of_choice Last _ _ _ h h)))
+  on_current s index h = of_choice Last _ _ _ h (of_option Last _ _ _ h (λ x. of_option Last _ _ _ h (λ y. of_choice Last _ _ _ h h)))
 
   on_clear : (s : Sessions) (store : List ℕ) → Last s → Last (clear s store).sessions
   unfolding clear
@@ -95,7 +94,7 @@ module _ (last : ℕ) where
   on_expire s store now h = of_expire Last (λ x slot v. v) (λ x v. v) s store now h
 
 -- both, in a control and in what holds one
-module _ (interval : Interval) (last : ℕ) where
+module _ (interval : Option ℕ) (last : ℕ) where
   abbrev pub Lasts : Control → Type 0
   Lasts c = Set interval c × Last last c.sessions
 
@@ -108,16 +107,16 @@ module _ (interval : Interval) (last : ℕ) where
   -- data sent
   on_grant : (c : Control) (s : Session) (count now : ℕ) → Lasts c → LastsOut (grant c s count now)
   unfolding grant finish_encapsulate begin_encapsulate done put tick_last_data_packet_sent tick_last_packet_sent
-  on_grant c s count now h = of_reserved LastsOut _ _ _ h (λ n x. h)
+  on_grant c s count now h = of_pair LastsOut _ _ _ h (λ n x. h)
 
   pub on_send : (c : Control) (count now : ℕ) → Lasts c → LastsOut (send c count now)
   unfolding send refuse
-  on_send c count now h = of_choice LastsOut _ _ _ h (of_found LastsOut _ _ _ h (λ s. on_grant c s count now h))
+  on_send c count now h = of_choice LastsOut _ _ _ h (of_option LastsOut _ _ _ h (λ s. on_grant c s count now h))
 
   on_keepalive : (c : Control) (now : ℕ) → Lasts c → Lasts (encrypt_keepalive c now).control
   unfolding encrypt_keepalive put tick_last_packet_sent
   on_keepalive c now h =
-      of_found (λ (e : Encrypted). Lasts e.control) _ _ _ h (λ s. of_reserved (λ (e : Encrypted). Lasts e.control) _ _ _ h (λ n x. h))
+      of_option (λ (e : Encrypted). Lasts e.control) _ _ _ h (λ s. of_pair (λ (e : Encrypted). Lasts e.control) _ _ _ h (λ n x. h))
 
   -- data received
   on_confirm : (c : Control) (started now : ℕ) → Lasts c → Lasts (confirm_first_session c started now)
@@ -137,12 +136,12 @@ module _ (interval : Interval) (last : ℕ) where
       → LastsOut (commit_decapsulate c store index id now counters kinds verdicts skips).out
   unfolding commit_decapsulate refuse done
   on_receive c store index id now counters kinds verdicts skips h =
-      of_choice (λ (b : Batched Out). LastsOut b.out) _ _ _ h (known_received LastsOut _ _ _ (λ n. h) (λ x p e. on_accept c x p index now h))
+      of_choice (λ (b : Batched Out). LastsOut b.out) _ _ _ h (known_results LastsOut _ _ _ (λ n. h) (λ x p e. on_accept c x p index now h))
 
   pub on_look : (c : Control) (store : List ℕ) (index counter now : ℕ) → Lasts c → LastsOut (begin_decapsulate c store index counter now)
   unfolding begin_decapsulate refuse
   on_look c store index counter now h =
-      of_choice LastsOut _ _ _ h (of_found LastsOut _ _ _ h (λ s. of_choice LastsOut _ _ _ h (of_choice LastsOut _ _ _ h h)))
+      of_choice LastsOut _ _ _ h (of_option LastsOut _ _ _ h (λ s. of_choice LastsOut _ _ _ h (of_result LastsOut _ _ _ (λ e. h) (λ good. h))))
 
   -- a response and a cookie reply
   on_establish : (c : Control) (local now : ℕ) → Lasts c → LastsOut (establish c local now)
@@ -150,18 +149,18 @@ module _ (interval : Interval) (last : ℕ) where
   on_establish c local now h =
       let k : Lasts (encrypt_keepalive (confirming c local now) now).control =
       on_keepalive _ now (on_confirm _ _ now (h.0, on_current last c.sessions local h.1)) in
-      of_datagram LastsOut _ _ _ k (λ a b. k)
+      of_pair LastsOut _ _ _ k (λ a b. k)
 
-  pub on_response : (c : Control) (store : List ℕ) (receiver peer outcome now : ℕ) → Lasts c
+  pub on_response : (c : Control) (store : List ℕ) (receiver peer : ℕ) (outcome : Result Unit Error) (now : ℕ) → Lasts c
       → LastsTurn (handle_handshake_response c store receiver peer outcome now)
   unfolding handle_handshake_response complete refuse
   on_response c store receiver peer outcome now h =
       of_choice LastsTurn _ _ _ h
-      (known_completed LastsTurn _ _ _ (λ n. h) (λ x s e. on_establish _ receiver now (h.0, on_insert last c.sessions store s h.1)))
+      (known_results LastsTurn _ _ _ (λ n. h) (λ x s e. on_establish _ receiver now (h.0, on_insert last c.sessions store s h.1)))
 
-  pub on_cookie : (c : Control) (receiver outcome now : ℕ) → Lasts c → LastsOut (handle_cookie_reply c receiver outcome now)
+  pub on_cookie : (c : Control) (receiver : ℕ) (outcome : Result Unit Error) (now : ℕ) → Lasts c → LastsOut (handle_cookie_reply c receiver outcome now)
   unfolding handle_cookie_reply refuse done
-  on_cookie c receiver outcome now h = of_choice LastsOut _ _ _ h (known_cookie LastsOut _ _ _ (λ n. h) (λ x e. h))
+  on_cookie c receiver outcome now h = of_choice LastsOut _ _ _ h (known_result LastsOut _ _ _ (λ n. h) (λ x e. h))
 
   -- the waking, save where it sends a scheduled handshake
   on_expired : (c : Control) (store : List ℕ) (now : ℕ) → Lasts c → Lasts (expire_control c store now).control
@@ -170,7 +169,7 @@ module _ (interval : Interval) (last : ℕ) where
 
   on_queue_keepalive : (c : Control) (now : ℕ) → Lasts c → Lasts (queue_keepalive c now)
   unfolding queue_keepalive queueing
-  on_queue_keepalive c now h = of_datagram Lasts _ _ _ (on_keepalive c now h) (λ a b. on_keepalive c now h)
+  on_queue_keepalive c now h = of_pair Lasts _ _ _ (on_keepalive c now h) (λ a b. on_keepalive c now h)
 
   on_passive : (c : Control) (now : ℕ) → Lasts c → Lasts (with_timers c (passive_timers c now))
   unfolding passive_timers consume_passive_keepalive
@@ -201,10 +200,10 @@ module _ (interval : Interval) (last : ℕ) where
   -- the missing report
   pub on_missing : (c : Control) (store : List ℕ) (index : ℕ) → Lasts c → LastsOut (missing_report c store index)
   unfolding missing_report refuse
-  on_missing c store index h = of_missing LastsOut _ _ _ (λ n. h) (λ n. h)
+  on_missing c store index h = of_result LastsOut _ _ _ (λ n. h) (λ n. h)
 
 -- the waking keeps the setting
-module _ (interval : Interval) (c : Control) (store : List ℕ) (jitter now : ℕ) (h : Set interval c) where
+module _ (interval : Option ℕ) (c : Control) (store : List ℕ) (jitter now : ℕ) (h : Set interval c) where
   on_due : (b : Bool) → due_by (scheduled_handshake c) now ≡ b → Set interval (handle_due c store jitter now).control
   unfolding handle_due choose
   on_due true e = rw e (on_scheduled interval c now h)
@@ -214,7 +213,7 @@ module _ (interval : Interval) (c : Control) (store : List ℕ) (jitter now : �
   unfolding handle_timeout done
   on_timeout = of_choice (SetTurn interval) _ _ _ h (on_due (due_by (scheduled_handshake c) now) refl)
 
-pub on_settle : (interval : Interval) (c : Control) (store : List ℕ) (jitter now : ℕ) → Set interval c → SetTurn interval (settle c store jitter now)
+pub on_settle : (interval : Option ℕ) (c : Control) (store : List ℕ) (jitter now : ℕ) → Set interval c → SetTurn interval (settle c store jitter now)
 unfolding settle
 on_settle interval c store jitter now h =
     of_repeat (λ (x : Control) (words : List ℕ). Set interval x) jitter now (λ x words. on_timeout interval x words jitter now) _ c store h
@@ -223,8 +222,8 @@ on_settle interval c store jitter now h =
 module _ (P : Control → Type 0) (t : Tunnel) (h : P t.control) where
   pub on_timed : (bad : Bool) (now : ℕ) (out : Out) → P out.control → P (timed t bad now out).tunnel.control
   unfolding timed let_through refused
-  on_timed bad now out k = of_choice (λ (a : Answered). P a.tunnel.control) _ _ _ k h
+  on_timed bad now out k = of_result (λ (a : Answered). P a.tunnel.control) _ _ _ (λ error. h) (λ passed. k)
 
   pub on_timeless : (bad : Bool) (out : Out) → P out.control → P (timeless t bad out).tunnel.control
   unfolding timeless let_through refused
-  on_timeless bad out k = of_choice (λ (a : Answered). P a.tunnel.control) _ _ _ k h
+  on_timeless bad out k = of_result (λ (a : Answered). P a.tunnel.control) _ _ _ (λ error. h) (λ passed. k)

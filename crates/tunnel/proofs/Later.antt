@@ -13,24 +13,20 @@ use Rattle.tunnel.specs.Handshake.{SentWithin, HandshakeWithin, in_flight_initia
 use Rattle.tunnel.specs.Timers.{max_jitter, TimeWithin, TimersWithin}
 use Rattle.tunnel.specs.declared.event.Event.{Event}
 use Rattle.tunnel.specs.declared.handshake.Handshake.{Handshake}
-use Rattle.tunnel.specs.declared.handshake.HandshakeState.TheVariants.{None, InitSent, Expired}
+use Rattle.tunnel.specs.declared.handshake.HandshakeState.TheVariants.{None as NoHandshake, InitSent, Expired}
 use Rattle.tunnel.specs.declared.handshake.HandshakeState.{HandshakeState}
 use Rattle.tunnel.specs.declared.ring_buffer.RingBuffer.{RingBuffer}
 use Rattle.tunnel.specs.declared.timers.Timers.{Timers}
 use Rattle.sessions.specs.Index.{slot_of}
-use Rattle.sessions.specs.Session.{time_limit}
 use Rattle.sessions.proofs.Laws.{lookup_law}
 use Rattle.sessions.specs.Laws.{InSlot}
-use Rattle.sessions.specs.Sessions.{slot_at, TimesWithin, current_of}
+use Rattle.sessions.specs.Sessions.{slot_at, current_of}
 use Rattle.sessions.specs.declared.session.Session.{Session}
-use Rattle.sessions.specs.declared.session.Time.TheVariants.{Never, At}
-use Rattle.sessions.specs.declared.session.Time.{Time}
-use Rattle.sessions.specs.declared.sessions.Found.TheVariants.{Got}
-use Rattle.sessions.specs.declared.sessions.Found.{Found}
 use Rattle.sessions.specs.declared.sessions.Sessions.{Sessions}
+use Rattle.std.specs.Prelude.{None, Option, Some}
 
 module _ (a b : ℕ) (l : a ≤ b) where
-  time_later : (time : Time) → TimeWithin time a → TimeWithin time b
+  time_later : (time : Option ℕ) → TimeWithin time a → TimeWithin time b
   time_later time w = record { within = λ at p. omega (arith, w.within at p) }
 
   sent_later : (state : HandshakeState) → SentWithin state a → SentWithin state b
@@ -58,10 +54,10 @@ module _ (a b : ℕ) (l : a ≤ b) where
   sessions_later : (s : Sessions) → SessionsWithin s a → SessionsWithin s b
   sessions_later s w = record { slots = λ k h f. slot_later (slot_at s k) k (w.slots k h f) }
 
-  event_later : (event : Event) → EventWithin event a → EventWithin event b
+  event_later : (event : Option Event) → EventWithin event a → EventWithin event b
   event_later event w = record { started = λ x y p. omega (arith, w.started x y p); confirmed = λ x y p. omega (arith, w.confirmed x y p) }
 
-  events_later : (events : List Event) → EventsWithin a events → EventsWithin b events
+  events_later : (events : List (Option Event)) → EventsWithin a events → EventsWithin b events
   events_later [] none = none
   events_later (event ∷ events) (more w ws) = more (event_later event w) (events_later events ws)
 
@@ -93,18 +89,14 @@ control_later a b l c w =
       events = queue_later a b l c.events w.events;
     }
 
--- what the sessions' next expiry asks for
-pub times_within : (s : Sessions) → SessionsWithin s time_limit → TimesWithin s
-times_within s w = record { within = λ k h f. (w.slots k h f).established }
-
 -- what the retry deadline asks for
-of_state : (state : HandshakeState) (most : ℕ) → SentWithin state most → TimeWithin (case_state state Never (λ local sent. At sent) Never) most
+of_state : (state : HandshakeState) (most : ℕ) → SentWithin state most → TimeWithin (case_state state None (λ local sent. Some sent) None) most
 unfolding case_state
-of_state None most w = record { within = λ at p. let z : ◌≡◌ {A = ℕ} 0 1 = cc in omega arith }
+of_state NoHandshake most w = record { within = λ at p. let z : ◌≡◌ {A = ℕ} 0 1 = cc in omega arith }
 of_state (InitSent x y) most w = record { within = λ at p. let e : y ≡ at = cc in omega (arith, w.within x y refl) }
 of_state Expired most w = record { within = λ at p. let z : ◌≡◌ {A = ℕ} 0 1 = cc in omega arith }
 
-pub in_flight_within : (h : Handshake) (most : ℕ) (time : Time) → HandshakeWithin h most → time ≡ in_flight_initiation h → TimeWithin time most
+pub in_flight_within : (h : Handshake) (most : ℕ) (time : Option ℕ) → HandshakeWithin h most → time ≡ in_flight_initiation h → TimeWithin time most
 unfolding in_flight_initiation
 in_flight_within h most time w e = rw e (of_state h.state most w.present)
 
@@ -115,7 +107,7 @@ module _ (s : Sessions) (most : ℕ) (w : SessionsWithin s most) where
       let full : (slot_at s (slot_of index)).filled ≡ true = ap (λ (y : Session). y.filled) i.stored ∙ i.filled in
       rw (← i.stored) (w.slots (slot_of index) (omega arith) full)
 
-  module _ (found : Found) (x : Session) (is : found ≡ Got x) where
+  module _ (found : Option Session) (x : Session) (is : found ≡ Some x) where
     -- what is known of the current session
     pub current_within : found ≡ current_of s → SlotWithin x (slot_of x.receiving_index) most
     current_within e = slot_within x.receiving_index x ((lookup_law s).current x (sym e ∙ is))
@@ -124,9 +116,5 @@ module _ (s : Sessions) (most : ℕ) (w : SessionsWithin s most) where
     current_established e = (current_within e).established
 
   -- what the current session's deadlines ask for
-  pub current_known : (found : Found) → found ≡ current_of s → FoundWithin found most
+  pub current_known : (found : Option Session) → found ≡ current_of s → FoundWithin found most
   current_known found e = record { within = λ x is. current_established found x is e }
-
--- what they ask for of a session that was found
-pub found_established : (found : Found) (x : Session) (most : ℕ) → FoundWithin found most → found ≡ Got x → x.established_at ≤ most
-found_established found x most w is = w.within x is

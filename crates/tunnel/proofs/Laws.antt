@@ -7,7 +7,6 @@ use Prim.Native.Nat.{ℕ, ◌≤◌}
 use lib.ListN.{length}
 use Rattle.sessions.specs.Session.{new_session, with_id}
 use Rattle.sessions.specs.Sessions.{current_of}
-use Rattle.sessions.specs.declared.sessions.Found.TheVariants.{Got}
 use Rattle.tunnel.proofs.AfterStates.{restart_ways, start_ways, cookie_ways, timeout_ways, settle_ways, batch_ways, response_ways, response_up, look_same, missing_same, event_down, sound_passed, new_down, new_up}
 use Rattle.tunnel.proofs.Deadline.{deadline_answer}
 use Rattle.tunnel.proofs.Exceptions.{send_ways, send_down, send_marked, incoming_up, incoming_store, incoming_down, incoming_failed}
@@ -32,7 +31,6 @@ use Rattle.tunnel.specs.AfterStates.{AfterStates, GreatestLaw, StillLaw, EventLa
 use Rattle.tunnel.specs.Deadline.{DeadlineLaw}
 use Rattle.tunnel.specs.Facts.{FactsOfUndamaged}
 use Rattle.tunnel.specs.Ahead.{last_index, AheadLaw, AheadExample}
-use Rattle.tunnel.specs.declared.timers.Interval.{Interval}
 use Rattle.tunnel.specs.Laws.{GateLaw, setting_of, SettingLaw, establishing, confirmed_by, ResponseLaw}
 use Rattle.tunnel.specs.Numbers.{NumbersLaw}
 use Rattle.tunnel.specs.Quiet.{QuietLaw}
@@ -43,17 +41,16 @@ use Rattle.tunnel.specs.declared.control.Control.{Control}
 use Rattle.tunnel.specs.declared.handshake.Handshake.{Handshake}
 use Rattle.tunnel.specs.declared.tunnel.Tunnel.{Tunnel}
 use native.Mathlib.Omega.{arith}
-use lib.Dec.{eqb}
-use borrow.Author.Tests.{eqb-true}
 use Rattle.tunnel.proofs.SoundOperations.{unraising, restart_sound, start_sound, send_sound, batch_sound, look_sound, cookie_sound, response_sound, event_sound, missing_sound, initiation_sound}
-use Rattle.base.proofs.Choice.{known_choice}
+use Rattle.base.proofs.Choice.{known_result, of_result}
 use Rattle.tunnel.specs.Control.{poll_event}
 use Rattle.tunnel.specs.declared.answer.Answer.TheVariants.{Done}
 use Rattle.base.proofs.Zeros.{length_zeros}
-use Rattle.tunnel.specs.Arguments.{opening_outcome, initiation_outcome, bad_outcome, creation_number}
+use Rattle.tunnel.specs.Arguments.{opening_outcome, initiation_outcome, bad_outcome, creation_number, named_of}
 use Rattle.tunnel.specs.HandleHandshake.{handle_handshake_response}
 use Rattle.tunnel.specs.Tunnel.{gate, refused, Called, timed_turn, timed_batch, call_new, call_start, call_restart, call_send, call_receive, call_look, call_initiation, call_response, call_cookie, call_timeout, call_settle, call_event, call_deadline, call_missing}
 use Rattle.tunnel.proofs.SoundWaking.{timeout_sound, settle_sound}
+use Rattle.std.specs.Prelude.{Ok, Option, Some}
 
 -- the ring of events
 pub queue_law : QueueOfNewest
@@ -80,11 +77,11 @@ sound_law t s =
           timed_sound t s _ now _ (λ b l. batch_sound t.greatest now l t.control w store index id counters kinds verdicts skips);
       look = λ store index counter now. timed_sound t s _ now _ (λ b l. look_sound t.greatest now l t.control w store index counter);
       initiation = λ store peer outcome now.
-          timed_sound t s _ now _ (λ b l. initiation_sound t.greatest now l t.control store peer (initiation_outcome outcome) w);
+          timed_sound t s _ now _ (λ b l. initiation_sound t.greatest now l t.control store peer (named_of (initiation_outcome outcome)) w);
       response = λ store receiver peer outcome now.
           timed_sound t s _ now _
-          (λ b l. response_sound t.greatest now l t.control w store receiver peer (opening_outcome outcome) (good_store (opening_outcome outcome) store b));
-      cookie = λ receiver outcome now. timed_sound t s _ now _ (λ b l. cookie_sound t.greatest now l t.control w receiver (opening_outcome outcome));
+          (λ b l. response_sound t.greatest now l t.control w store receiver peer (named_of (opening_outcome outcome)) (good_store (opening_outcome outcome) store b));
+      cookie = λ receiver outcome now. timed_sound t s _ now _ (λ b l. cookie_sound t.greatest now l t.control w receiver (named_of (opening_outcome outcome)));
       timeout = λ store jitter now.
           timed_sound t s _ now _ (λ b l. timeout_sound t.greatest now l t.control w store jitter (small_jitter jitter store _ refl b));
       settle = λ store jitter now.
@@ -99,10 +96,10 @@ pub created_law : (store : List ℕ) (index keepalive now : ℕ) → CreatedLaw 
 unfolding call_new refused
 created_law store index keepalive now =
     record {
-      tunnel = known_choice (λ (y : Called). Sound y.answered.tunnel) (eqb (creation_number store keepalive now) 0) _ _
-          (λ e. good_made store index keepalive now (eqb-true _ 0 e)) (λ e. made_sound 0 0 0 (omega arith) (omega arith));
-      words = known_choice (λ (y : Called). y.answered.answer ≡ Done → length y.store ≡ 1024) (eqb (creation_number store keepalive now) 0) _ _
-          (λ e d. length_zeros 1024) (λ e d. let z : ◌≡◌ {A = ℕ} 0 1 = cc in absurd (omega arith));
+      tunnel = known_result (λ (y : Called). Sound y.answered.tunnel) (creation_number store keepalive now) _ _
+          (λ error. made_sound 0 0 0 (omega arith) (omega arith)) (λ good e. good_made store index keepalive now e);
+      words = of_result (λ (y : Called). y.answered.answer ≡ Ok Done → length y.store ≡ 1024) (creation_number store keepalive now) _ _
+          (λ error d. absurd (cc)) (λ good d. length_zeros 1024);
     }
 
 -- stores keep their length
@@ -145,7 +142,7 @@ pub ahead_law : (t : Tunnel) (store : List ℕ) → length t.control.sessions.sl
 unfolding call_send call_receive call_look call_response call_cookie call_event call_deadline call_missing timed_turn timed_batch poll_event
 ahead_law t store eight sixteen =
     let Same : Control → Type 0 = λ (c : Control). Last (last_index t) c.sessions in
-    let i : Interval = setting_of t in
+    let i : Option ℕ = setting_of t in
     record {
       new = new_gives store;
       start = call_start_gives t;
@@ -195,7 +192,7 @@ module _ (t : Tunnel) (s : Sound t) (handshake : Handshake) (store : List ℕ) (
   sound_now = sound_later t.greatest now later t.control (its_control t s)
 
   now_current : current_of (confirmed_by t.control handshake store receiver peer now).sessions
-      ≡ Got (with_id (establishing receiver peer now) t.control.sessions.inserted)
+      ≡ Some (with_id (establishing receiver peer now) t.control.sessions.inserted)
   now_current = ap current_of (confirming_sessions _ receiver now) ∙ response_current t.control handshake store receiver peer now sound_now long
 
   pub response_law : ResponseLaw t.control handshake store receiver peer now
@@ -209,10 +206,10 @@ module _ (t : Tunnel) (s : Sound t) (handshake : Handshake) (store : List ℕ) (
 
 -- what the calls that are turned down leave; the arrays' lengths are for the response, whose session is never stored without its keepalive
 module _ (t : Tunnel) (store : List ℕ) (eight : length t.control.sessions.slots ≡ 8) (sixteen : length t.control.events.slots ≡ 16) where
-  passed_response : (receiver peer outcome now : ℕ) → gate t (bad_outcome (opening_outcome outcome) store) now ≡ 0
-      → TurnWays t.control store (handle_handshake_response t.control store receiver peer (opening_outcome outcome) now)
+  passed_response : (receiver peer outcome now : ℕ) → gate t (bad_outcome (opening_outcome outcome) store) now ≡ Ok tt
+      → TurnWays t.control store (handle_handshake_response t.control store receiver peer (named_of (opening_outcome outcome)) now)
   passed_response receiver peer outcome now z =
-      response_ways t.control store receiver peer (opening_outcome outcome) now (sound_passed t _ now eight sixteen z)
+      response_ways t.control store receiver peer (named_of (opening_outcome outcome)) now (sound_passed t _ now eight sixteen z)
       (good_store (opening_outcome outcome) store (gate_good t _ now z))
 
   pub after_states_law : AfterStates t store
@@ -229,7 +226,7 @@ module _ (t : Tunnel) (store : List ℕ) (eight : length t.control.sessions.slot
         initiation_failed = λ peer outcome now. incoming_failed t store peer outcome now;
         initiation_store = λ peer outcome now. incoming_store t store peer outcome now;
         response = λ receiver peer outcome now. turn_down t _ now store _ (passed_response receiver peer outcome now);
-        cookie = λ receiver outcome now. timed_down t _ now _ (λ z. cookie_ways t.control receiver (opening_outcome outcome) now);
+        cookie = λ receiver outcome now. timed_down t _ now _ (λ z. cookie_ways t.control receiver (named_of (opening_outcome outcome)) now);
         timeout = λ jitter now. turn_down t _ now store _ (λ z. timeout_ways t.control store jitter now);
         settle = λ jitter now. turn_down t _ now store _ (λ z. settle_ways t.control store jitter now);
         event = event_down t;
@@ -250,8 +247,8 @@ greatest_law t store =
       send = λ count now. timed_up t _ now _ (λ z. (send_ways t.control count now).up);
       receive = λ index id now counters kinds verdicts skips. timed_up t _ now _ (λ z. (batch_ways t.control store index id now counters kinds verdicts skips).out.up);
       initiation = λ peer outcome now. incoming_up t store peer outcome now;
-      response = λ receiver peer outcome now. timed_up t _ now _ (λ z. response_up t.control store receiver peer (opening_outcome outcome) now);
-      cookie = λ receiver outcome now. timed_up t _ now _ (λ z. (cookie_ways t.control receiver (opening_outcome outcome) now).up);
+      response = λ receiver peer outcome now. timed_up t _ now _ (λ z. response_up t.control store receiver peer (named_of (opening_outcome outcome)) now);
+      cookie = λ receiver outcome now. timed_up t _ now _ (λ z. (cookie_ways t.control receiver (named_of (opening_outcome outcome)) now).up);
       timeout = λ jitter now. timed_up t _ now _ (λ z. (timeout_ways t.control store jitter now).out.up);
       settle = λ jitter now. timed_up t _ now _ (λ z. (settle_ways t.control store jitter now).out.up);
     }

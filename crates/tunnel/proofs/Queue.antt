@@ -13,14 +13,14 @@ use borrow.Author.Tests.{eq-eqb, ne_eqb}
 use Rattle.base.specs.Choice.{choose}
 use Rattle.tunnel.specs.RingBuffer.{holding, place_of, event_at, empty_places, new_ring, store_at, push_back, pop_front, events_from, queued, newest, oldest, Ring, QueueOfNewest}
 use Rattle.tunnel.specs.declared.event.Event.{Event}
-use Rattle.tunnel.specs.declared.event.Event.TheVariants.{Empty}
+use Rattle.std.specs.Prelude.{Option, Some, None}
 use Rattle.tunnel.specs.declared.ring_buffer.RingBuffer.{RingBuffer}
 use Rattle.tunnel.specs.declared.ring_buffer.Slot.{Slot}
 
-both : {a b : Event} {x y : List Event} → a ≡ b → x ≡ y → a ∷ x ≡ b ∷ y
+both : {a b : Option Event} {x y : List (Option Event)} → a ≡ b → x ≡ y → a ∷ x ≡ b ∷ y
 both p q = cc
 
-snoc : {a b : Event} {x y : List Event} → x ≡ y → a ≡ b → x ++ a ∷ [] ≡ y ++ b ∷ []
+snoc : {a b : Option Event} {x y : List (Option Event)} → x ≡ y → a ≡ b → x ++ a ∷ [] ≡ y ++ b ∷ []
 snoc p q = cc
 
 module _ (slots : List Slot) where
@@ -45,20 +45,20 @@ module _ (slots : List Slot) where
   counted (suc n) head = ap suc (counted n (suc head))
 
   -- a store at another place changes none of them
-  untouched : (event : Event) (place n head : ℕ) → ((i : ℕ) → i < n → (head + i) % 16 ≡ place → ⊥)
+  untouched : (event : Option Event) (place n head : ℕ) → ((i : ℕ) → i < n → (head + i) % 16 ≡ place → ⊥)
       → events_from (set slots place (holding event)) head n ≡ events_from slots head n
   unfolding events_from
   untouched event place zero head other = refl
   untouched event place (suc n) head other =
-      both (ap (λ (slot : Slot). slot.event) (get_or-set_other slots place (head % 16) (holding event) (holding Empty) (λ e. other 0 (omega arith) (omega arith))))
+      both (ap (λ (slot : Slot). slot.event) (get_or-set_other slots place (head % 16) (holding event) (holding None) (λ e. other 0 (omega arith) (omega arith))))
       (untouched event place n (suc head) (λ i h e. other (suc i) (omega arith) (omega arith)))
 
   -- what a store leaves at its place
-  stored : (event : Event) (place : ℕ) → place < length slots → event_at (set slots place (holding event)) place ≡ event
-  stored event place h = ap (λ (slot : Slot). slot.event) (get_or-set_same slots place (holding event) (holding Empty) h)
+  stored : (event : Option Event) (place : ℕ) → place < length slots → event_at (set slots place (holding event)) place ≡ event
+  stored event place h = ap (λ (slot : Slot). slot.event) (get_or-set_same slots place (holding event) (holding None) h)
 
 -- a push, where the ring has room and where it is full
-module _ (slots : List Slot) (event : Event) (head place : ℕ) (long : length slots ≡ 16) where
+module _ (slots : List Slot) (event : Option Event) (head place : ℕ) (long : length slots ≡ 16) where
   push_more : (len : ℕ) → len < 16 → place ≡ (head + len) % 16
       → events_from (set slots place (holding event)) head (suc len) ≡ events_from slots head len ++ event ∷ []
   push_more len h e =
@@ -74,13 +74,13 @@ module _ (slots : List Slot) (event : Event) (head place : ℕ) (long : length s
       ∙ snoc (untouched slots event place 15 (suc head) (λ i l p. omega arith)) (rw f (stored slots event place (omega arith)))
 
 -- the newest sixteen of a list with one more event
-newest_short : (xs : List Event) (event : Event) → length xs < 16 → newest (xs ++ event ∷ []) ≡ xs ++ event ∷ []
+newest_short : (xs : List (Option Event)) (event : Option Event) → length xs < 16 → newest (xs ++ event ∷ []) ≡ xs ++ event ∷ []
 unfolding newest
 newest_short xs event h =
     let e : length (xs ++ event ∷ []) - 16 ≡ 0 = omega (arith, length-append xs (event ∷ [])) in
     rw e
 
-newest_full : (x : Event) (xs : List Event) (event : Event) → length xs ≡ 15 → newest ((x ∷ xs) ++ event ∷ []) ≡ xs ++ event ∷ []
+newest_full : (x : Option Event) (xs : List (Option Event)) (event : Option Event) → length xs ≡ 15 → newest ((x ∷ xs) ++ event ∷ []) ≡ xs ++ event ∷ []
 unfolding newest
 newest_full x xs event h =
     let e : length ((x ∷ xs) ++ event ∷ []) - 16 ≡ 1 = omega (arith, length-append xs (event ∷ [])) in
@@ -92,15 +92,15 @@ unfolding events_from
 first_apart slots head len h = rw h
 
 module _ (r : RingBuffer) (event : Event) (ring : Ring r) where
-  pushed : queued (push_back r event) ≡ newest (queued r ++ event ∷ [])
+  pushed : queued (push_back r event) ≡ newest (queued r ++ Some event ∷ [])
   unfolding queued push_back store_at place_of choose
   pushed = elim (ℕ_discrete r.len 16) [
-    | yes h ↦ rw (eq-eqb r.len 16 h, first_apart r.slots r.head r.len h, newest_full _ _ event (counted r.slots 15 (suc r.head)), h)
-        (push_full r.slots event r.head ((r.head + 16) % 16) ring.places refl)
+    | yes h ↦ rw (eq-eqb r.len 16 h, first_apart r.slots r.head r.len h, newest_full _ _ (Some event) (counted r.slots 15 (suc r.head)), h)
+        (push_full r.slots (Some event) r.head ((r.head + 16) % 16) ring.places refl)
     | no h ↦
         let l : length (events_from r.slots r.head r.len) < 16 = omega (arith, counted r.slots r.len r.head, ring.within.len) in
-        rw (ne_eqb r.len 16 h, newest_short (events_from r.slots r.head r.len) event l, add-one)
-        (push_more r.slots event r.head ((r.head + r.len) % 16) ring.places r.len (omega (arith, ring.within.len)) refl)
+        rw (ne_eqb r.len 16 h, newest_short (events_from r.slots r.head r.len) (Some event) l, add-one)
+        (push_more r.slots (Some event) r.head ((r.head + r.len) % 16) ring.places r.len (omega (arith, ring.within.len)) refl)
   ]
 
   still : Ring (push_back r event)
@@ -116,10 +116,10 @@ module _ (r : RingBuffer) (event : Event) (ring : Ring r) where
 
 -- a pop, where an event is queued
 pop_one : (slots : List Slot) (head n : ℕ) → head ≤ 15 → n ≤ 15
-    → events_from (set slots head (holding Empty)) ((head + 1) % 16) n ≡ events_from slots (suc head) n
+    → events_from (set slots head (holding None)) ((head + 1) % 16) n ≡ events_from slots (suc head) n
 pop_one slots head n h l =
-    turned (set slots head (holding Empty)) n ((head + 1) % 16) (suc head) (omega arith)
-    ∙ untouched slots Empty head n (suc head) (λ i k p. omega arith)
+    turned (set slots head (holding None)) n ((head + 1) % 16) (suc head) (omega arith)
+    ∙ untouched slots None head n (suc head) (λ i k p. omega arith)
 
 -- the events of a ring that is not empty, the oldest apart
 some_apart : (slots : List Slot) (head len : ℕ) → (len ≡ 0 → ⊥) → events_from slots head len ≡ event_at slots (head % 16) ∷ events_from slots (suc head) (len - 1)

@@ -9,28 +9,21 @@ use native.Mathlib.Omega.{arith}
 use lib.Dec.{ltb, leb}
 use borrow.Author.Tests.{ltb-true, ltb-false, leb-false, lt-leb}
 use Rattle.base.proofs.Choice.{no_flag}
-use Rattle.base.specs.Choice.{choose}
+use Rattle.base.specs.Choice.{choose, case_option}
 use Rattle.base.specs.First.{none_of}
 use Rattle.tunnel.specs.Control.{with_handshake}
 use Rattle.tunnel.specs.PollTimeout.{scheduled_handshake, earliest_expiry, cookie_deadline, reject_deadline, attempt_deadline, handshake_rekey_timeout, rekey_on_send, rekey_on_messages, rekey_on_receive, response_deadline, passive_deadline, persistent_deadline, current_persistent_deadline, common_deadline, rekey_deadline, keepalive_deadline, unscheduled_deadline, next_deadline}
 use Rattle.tunnel.specs.declared.control.Control.{Control}
 use Rattle.tunnel.specs.Handshake.{expire_cookie}
-use Rattle.tunnel.specs.Cases.{case_interval}
 use Rattle.tunnel.specs.Timers.{next_persistent_keepalive}
-use Rattle.tunnel.specs.declared.timers.Interval.TheVariants.{Off}
-use Rattle.tunnel.specs.declared.timers.Interval.{Interval}
 use Rattle.sessions.proofs.Laws.{expiry_law}
-use Rattle.sessions.specs.Cases.{case_time, case_found}
 use Rattle.sessions.specs.Session.{due_by, least, earlier, expires_at, expired_at}
 use Rattle.sessions.specs.Sessions.{current_of, slot_at, expired_slot, expire, slot_expiry, first_expiry, next_expiry}
 use Rattle.sessions.specs.declared.session.Session.{Session}
-use Rattle.sessions.specs.declared.session.Time.TheVariants.{Never, At}
-use Rattle.sessions.specs.declared.session.Time.{Time}
-use Rattle.sessions.specs.declared.sessions.Found.TheVariants.{Nothing, Got}
-use Rattle.sessions.specs.declared.sessions.Found.{Found}
 use Rattle.sessions.specs.declared.sessions.Sessions.{Sessions}
 use Rattle.tunnel.specs.Quiet.{Early}
 use Rattle.tunnel.specs.HandleTimeout.{inner, keepalive_due, keepalive_if_due, rekey_due, rekey_or_keepalive, give_up_or_retry, maintain_connection, expire_sessions, handle_due}
+use Rattle.std.specs.Prelude.{None, Option, Some}
 
 -- a value picked by a test that fails
 module _ {A : Type 0} where
@@ -38,7 +31,7 @@ module _ {A : Type 0} where
   otherwise t x y v p q = sym (no_flag t v x y p (sym q))
 
 -- where the earlier of two deadlines has not come, neither has come
-pub record Neither (a b : Time) (now : ℕ) : Type 0 where
+pub record Neither (a b : Option ℕ) (now : ℕ) : Type 0 where
   pub first : due_by a now ≡ false
   pub second : due_by b now ≡ false
 
@@ -47,16 +40,16 @@ unfolding choose
 of_least true a b e now p = (lt-leb a now (let x : b < a = ltb-true b a e in let y : now < b = leb-false b now p in omega arith), p)
 of_least false a b e now p = (p, lt-leb b now (let x : a ≤ b = ltb-false b a e in let y : now < a = leb-false a now p in omega arith))
 
-pub neither : (a b : Time) (now : ℕ) → due_by (earlier a b) now ≡ false → Neither a b now
-unfolding due_by earlier case_time least
-neither Never b now p = record { first = refl; second = p }
-neither (At a) Never now p = record { first = p; second = refl }
-neither (At a) (At b) now p = let q = of_least (ltb b a) a b refl now p in record { first = q.0; second = q.1 }
+pub neither : (a b : Option ℕ) (now : ℕ) → due_by (earlier a b) now ≡ false → Neither a b now
+unfolding due_by earlier case_option least
+neither None b now p = record { first = refl; second = p }
+neither (Some a) None now p = record { first = p; second = refl }
+neither (Some a) (Some b) now p = let q = of_least (ltb b a) a b refl now p in record { first = q.0; second = q.1 }
 
 -- an expiry that finds no slot due leaves all as it was
 module _ (s : Sessions) (now : ℕ) where
-  not_expired : (filled : Bool) (x : Session) → due_by (choose filled (At (expires_at x)) Never) now ≡ false → choose filled (expired_at x now) false ≡ false
-  unfolding choose due_by case_time expires_at expired_at
+  not_expired : (filled : Bool) (x : Session) → due_by (choose filled (Some (expires_at x)) None) now ≡ false → choose filled (expired_at x now) false ≡ false
+  unfolding choose due_by case_option expires_at expired_at
   not_expired true x p = p
   not_expired false x p = refl
 
@@ -72,18 +65,18 @@ module _ (s : Sessions) (now : ℕ) where
       otherwise (expired_slot s count now) _ _ true (slot_quiet count n.second) (slots_quiet count n.first)
 
   expire_quiet : (store : List ℕ) → due_by (next_expiry s) now ≡ false
-      → expire s store now ≡ record { expired = record { sessions = s; current = Nothing }; store = store }
+      → expire s store now ≡ record { expired = record { sessions = s; current = None }; store = store }
   expire_quiet store p = (expiry_law s store now).none (slots_quiet 8 p)
 
 module _ (c : Control) (now : ℕ) where
   -- the persistent keepalive is not due: its deadline counts while a session is current, and without an interval there is none
-  persistent_off : (interval : Interval) (kept : ℕ → Time) → interval ≡ Off → due_by (case_interval interval Never kept) now ≡ false
-  unfolding case_interval due_by case_time
+  persistent_off : (interval : Option ℕ) (kept : ℕ → Option ℕ) → interval ≡ None → due_by (case_option interval None kept) now ≡ false
+  unfolding case_option due_by
   persistent_off interval kept p = rw p refl
 
-  persistent_current : (found : Found) (session : Session) (at : Time) → found ≡ Got session → due_by (case_found found Never (λ s. at)) now ≡ false
+  persistent_current : (found : Option Session) (session : Session) (at : Option ℕ) → found ≡ Some session → due_by (case_option found None (λ s. at)) now ≡ false
       → due_by at now ≡ false
-  unfolding case_found
+  unfolding case_option
   persistent_current found session at p q = rw p at q
 
   persistent_waits : Early c now → due_by (current_persistent_deadline c) now ≡ false → due_by (persistent_deadline c) now ≡ false
@@ -127,23 +120,23 @@ module _ (c : Control) (now : ℕ) where
     progress_quiet a r = otherwise _ _ _ (inner c store) a (otherwise _ _ _ (inner c store) r (otherwise false _ _ (inner c store) refl refl))
 
     -- the connection maintained, by whether an initiation awaits a response
-    after_retry : (retry : Time) → handshake_rekey_timeout c ≡ retry
-        → due_by (case_time retry (earlier (common_deadline c) (earlier (rekey_deadline c) (keepalive_deadline c)))
-        (λ at. earlier (common_deadline c) (earlier (At at) (attempt_deadline c)))) now ≡ false
+    after_retry : (retry : Option ℕ) → handshake_rekey_timeout c ≡ retry
+        → due_by (case_option retry (earlier (common_deadline c) (earlier (rekey_deadline c) (keepalive_deadline c)))
+        (λ at. earlier (common_deadline c) (earlier (Some at) (attempt_deadline c)))) now ≡ false
         → (due_by (common_deadline c) now ≡ false)
-        × (case_time retry (inner (rekey_or_keepalive c false jitter now) store) (λ at. give_up_or_retry c store false jitter now) ≡ inner c store)
-    unfolding case_time
-    after_retry Never e p =
+        × (case_option retry (inner (rekey_or_keepalive c false jitter now) store) (λ at. give_up_or_retry c store false jitter now) ≡ inner c store)
+    unfolding case_option
+    after_retry None e p =
         let n = neither (common_deadline c) (earlier (rekey_deadline c) (keepalive_deadline c)) now p in
         (n.first, ap (λ (x : Control). inner x store) (idle_quiet n.second))
-    after_retry (At at) e p =
-        let n = neither (common_deadline c) (earlier (At at) (attempt_deadline c)) now p in
-        let m = neither (At at) (attempt_deadline c) now n.second in
-        (n.first, progress_quiet m.second (ap (λ (x : Time). due_by x now) e ∙ m.first))
+    after_retry (Some at) e p =
+        let n = neither (common_deadline c) (earlier (Some at) (attempt_deadline c)) now p in
+        let m = neither (Some at) (attempt_deadline c) now n.second in
+        (n.first, progress_quiet m.second (ap (λ (x : Option ℕ). due_by x now) e ∙ m.first))
 
     -- the waking while no handshake is scheduled
     sessions_quiet : due_by (unscheduled_deadline c) now ≡ false → expire_sessions c store jitter now ≡ inner c store
-    unfolding unscheduled_deadline expire_sessions case_found maintain_connection common_deadline earliest_expiry
+    unfolding unscheduled_deadline expire_sessions case_option maintain_connection common_deadline earliest_expiry
     sessions_quiet p =
         let a = after_retry (handshake_rekey_timeout c) refl p in
         let n = neither (earlier (earliest_expiry c) (cookie_deadline c)) (reject_deadline c) now a.0 in
@@ -151,11 +144,11 @@ module _ (c : Control) (now : ℕ) where
         rw (expire_quiet c.sessions now store m.first, cookie_stays m.second) (otherwise _ _ _ (inner c store) n.second a.1)
 
     -- the waking by whether a handshake is scheduled
-    by_schedule : (at : Time) → due_by (case_time at (unscheduled_deadline c) (λ x. At x)) now ≡ false
-        → (due_by at now ≡ false) × (case_time at (expire_sessions c store jitter now) (λ x. inner c store) ≡ inner c store)
-    unfolding case_time due_by
-    by_schedule Never p = (refl, sessions_quiet p)
-    by_schedule (At at) p = (p, refl)
+    by_schedule : (at : Option ℕ) → due_by (case_option at (unscheduled_deadline c) (λ x. Some x)) now ≡ false
+        → (due_by at now ≡ false) × (case_option at (expire_sessions c store jitter now) (λ x. inner c store) ≡ inner c store)
+    unfolding case_option due_by
+    by_schedule None p = (refl, sessions_quiet p)
+    by_schedule (Some at) p = (p, refl)
 
     pub wake_quiet : handle_due c store jitter now ≡ inner c store
     unfolding handle_due next_deadline

@@ -9,72 +9,63 @@ use lib.Dec.{ltb}
 use lib.ListN.{length}
 use lib.Seq.{get_or-set_same}
 use borrow.Author.Tests.{le-leb, lt-leb, le-ltb, eqb-true, eq-eqb}
-use Rattle.base.specs.Choice.{choose}
+use Rattle.base.specs.Choice.{choose, case_option, case_pair}
 use Rattle.tunnel.proofs.Later.{current_established}
-use Rattle.base.proofs.Choice.{known_choice, of_choice}
-use Rattle.sessions.specs.Cases.{known_found, case_reserved, case_found, case_selected}
+use Rattle.base.proofs.Choice.{known_choice, of_choice, known_option}
 use Rattle.tunnel.proofs.SoundSteps.{SoundSessions, SoundControl, new_within, insert_sound, its_sessions}
 use Rattle.tunnel.specs.Control.{with_handshake, with_sessions, done, queueing}
 use Rattle.tunnel.specs.HandleHandshake.{confirming, establish, complete}
-use Rattle.tunnel.specs.Cases.{case_datagram}
 use Rattle.tunnel.specs.Encapsulate.{encrypt_keepalive}
 use Rattle.tunnel.specs.Decapsulate.{confirm_first_session}
 use Rattle.tunnel.specs.declared.answer.Answer.TheVariants.{Keepalive}
 use Rattle.tunnel.specs.declared.control.Control.{Control}
-use Rattle.tunnel.specs.declared.encapsulate.Datagram.TheVariants.{Sent}
-use Rattle.tunnel.specs.declared.encapsulate.Datagram.{Datagram}
 use Rattle.tunnel.specs.declared.encapsulate.Encrypted.{Encrypted}
 use Rattle.tunnel.specs.declared.handshake.Handshake.{Handshake}
 use Rattle.sessions.specs.Session.{new_session, with_id, with_counter, reserve_counters, expired_at, should_use_at, sending_counter_exhausted, empty_session, reject_after_time, keepalive_timeout}
 use Rattle.sessions.specs.Sessions.{in_slot_of, get, put, current_of, inserting, insert, is_index, select, set_current, usable, sending_session}
-use Rattle.sessions.specs.declared.session.Reserved.TheVariants.{First}
-use Rattle.sessions.specs.declared.session.Reserved.{Reserved}
 use Rattle.sessions.specs.declared.session.Role.TheVariants.{Initiator}
 use Rattle.sessions.specs.declared.session.Role.{Role}
 use Rattle.sessions.specs.declared.session.Session.{Session}
-use Rattle.sessions.specs.declared.sessions.Found.TheVariants.{Nothing, Got}
-use Rattle.sessions.specs.declared.sessions.Found.{Found}
-use Rattle.sessions.specs.declared.sessions.Selected.TheVariants.{Unset, Index}
-use Rattle.sessions.specs.declared.sessions.Selected.{Selected}
 use Rattle.sessions.specs.declared.sessions.Sessions.{Sessions}
+use Rattle.std.specs.Prelude.{None, Option, Some}
 
 -- the session of a completed handshake, at whose time no stored one is newer, is current, and has its first counter to send
-found_or : {A : Type 0} (found : Found) (x : Session) (y : A) (f : Session → A) → found ≡ Got x → case_found found y f ≡ f x
-unfolding case_found
+found_or : {A : Type 0} (found : Option Session) (x : Session) (y : A) (f : Session → A) → found ≡ Some x → case_option found y f ≡ f x
+unfolding case_option
 found_or found x y f e = rw e
 
 current_select : (s : Sessions) (index : ℕ) → current_of (select s index) ≡ get s index
-unfolding current_of select case_selected get in_slot_of
+unfolding current_of select case_option get in_slot_of
 current_select s index = refl
 
-current_index : (selected : Selected) (index : ℕ) (s : Sessions) → is_index selected index ≡ true → case_selected selected Nothing (λ k. get s k) ≡ get s index
-unfolding is_index case_selected
-current_index Unset index s e = absurd (true≢false (sym e))
-current_index (Index k) index s e = ap (get s) (eqb-true k index e)
+current_index : (selected : Option ℕ) (index : ℕ) (s : Sessions) → is_index selected index ≡ true → case_option selected None (λ k. get s k) ≡ get s index
+unfolding is_index case_option
+current_index None index s e = absurd (true≢false (sym e))
+current_index (Some k) index s e = ap (get s) (eqb-true k index e)
 
 already_current : (s : Sessions) (index : ℕ) → is_index s.current index ≡ true → current_of s ≡ get s index
 unfolding current_of
 already_current s index e = current_index s.current index s e
 
-module _ (s : Sessions) (index : ℕ) (x : Session) (found : get s index ≡ Got x)
-    (newest : (y : Session) → current_of s ≡ Got y → y.established_at ≤ x.established_at) where
-  not_newer : (y : Session) → current_of s ≡ Got y → choose (ltb x.established_at y.established_at) s (select s index) ≡ select s index
+module _ (s : Sessions) (index : ℕ) (x : Session) (found : get s index ≡ Some x)
+    (newest : (y : Session) → current_of s ≡ Some y → y.established_at ≤ x.established_at) where
+  not_newer : (y : Session) → current_of s ≡ Some y → choose (ltb x.established_at y.established_at) s (select s index) ≡ select s index
   unfolding choose
   not_newer y p = rw (le-ltb x.established_at y.established_at (newest y p))
 
-  selects : case_found (current_of s) (select s index) (λ current. choose (ltb x.established_at current.established_at) s (select s index)) ≡ select s index
-  selects = known_found (λ (z : Sessions). z ≡ select s index) (current_of s) _ _ refl not_newer
+  selects : case_option (current_of s) (select s index) (λ current. choose (ltb x.established_at current.established_at) s (select s index)) ≡ select s index
+  selects = known_option (λ (z : Sessions). z ≡ select s index) (current_of s) _ _ refl not_newer
 
-  newest_current : current_of (set_current s index) ≡ Got x
+  newest_current : current_of (set_current s index) ≡ Some x
   unfolding set_current
   newest_current =
-      known_choice (λ (z : Sessions). current_of z ≡ Got x) (is_index s.current index) _ _ (λ e. already_current s index e ∙ found)
+      known_choice (λ (z : Sessions). current_of z ≡ Some x) (is_index s.current index) _ _ (λ e. already_current s index e ∙ found)
       (λ e. ap current_of (found_or (get s index) x s _ found ∙ selects) ∙ current_select s index ∙ found)
 
 -- a session just inserted is found by its index
 pub inserted_found : (s : Sessions) (store : List ℕ) (local peer : ℕ) (role : Role) (now : ℕ) → length s.slots ≡ 8 → length store ≡ 1024
-    → get (insert s store (new_session local peer role now)).sessions local ≡ Got (with_id (new_session local peer role now) s.inserted)
-unfolding get in_slot_of insert inserting put new_session choose case_found
+    → get (insert s store (new_session local peer role now)).sessions local ≡ Some (with_id (new_session local peer role now) s.inserted)
+unfolding get in_slot_of insert inserting put new_session choose case_option
 inserted_found s store local peer role now n l =
     rw (
       eq-eqb (length store) 1024 l,
@@ -84,31 +75,31 @@ inserted_found s store local peer role now n l =
 
 -- a session established now with no counter sent is usable
 fresh_usable : (x : Session) (now : ℕ) → x.established_at ≡ now → x.sending_key_counter ≡ 0
-    → choose (sending_counter_exhausted x) Nothing (choose (expired_at x now) Nothing (usable x now)) ≡ Got x
+    → choose (sending_counter_exhausted x) None (choose (expired_at x now) None (usable x now)) ≡ Some x
 unfolding sending_counter_exhausted expired_at usable should_use_at choose
 fresh_usable x now e z =
     rw (z, e, lt-leb (now + reject_after_time) now (omega arith), le-leb (now + keepalive_timeout) (now + reject_after_time) (omega arith))
 
-fresh_sending : (s : Sessions) (x : Session) (now : ℕ) → current_of s ≡ Got x → x.established_at ≡ now → x.sending_key_counter ≡ 0
-    → sending_session s now ≡ Got x
+fresh_sending : (s : Sessions) (x : Session) (now : ℕ) → current_of s ≡ Some x → x.established_at ≡ now → x.sending_key_counter ≡ 0
+    → sending_session s now ≡ Some x
 unfolding sending_session
 fresh_sending s x now c e z = found_or (current_of s) x _ _ c ∙ fresh_usable x now e z
 
-fresh_reserved : (x : Session) → x.sending_key_counter ≡ 0 → reserve_counters x 1 ≡ First 0 (with_counter x 1)
+fresh_reserved : (x : Session) → x.sending_key_counter ≡ 0 → reserve_counters x 1 ≡ Some (0, (with_counter x 1))
 unfolding reserve_counters choose
 fresh_reserved x z = rw z
 
-reserved_or : {A : Type 0} (r : Reserved) (n : ℕ) (x : Session) (y : A) (f : ℕ → Session → A) → r ≡ First n x → case_reserved r y f ≡ f n x
-unfolding case_reserved
+reserved_or : {A : Type 0} (r : Option (ℕ × Session)) (n : ℕ) (x : Session) (y : A) (f : ℕ → Session → A) → r ≡ Some (n, x) → case_pair r y f ≡ f n x
+unfolding case_pair
 reserved_or r n x y f e = rw e
 
-datagram_or : {A : Type 0} (d : Datagram) (peer counter : ℕ) (y : A) (f : ℕ → ℕ → A) → d ≡ Sent peer counter → case_datagram d y f ≡ f peer counter
-unfolding case_datagram
+datagram_or : {A : Type 0} (d : Option (ℕ × ℕ)) (peer counter : ℕ) (y : A) (f : ℕ → ℕ → A) → d ≡ Some (peer, counter) → case_pair d y f ≡ f peer counter
+unfolding case_pair
 datagram_or d peer counter y f e = rw e
 
 -- the keepalive of a current session established now with no counter sent
-pub keepalive_sent : (c : Control) (x : Session) (now : ℕ) → current_of c.sessions ≡ Got x → x.established_at ≡ now → x.sending_key_counter ≡ 0
-    → (encrypt_keepalive c now).keepalive ≡ Sent x.sending_index 0
+pub keepalive_sent : (c : Control) (x : Session) (now : ℕ) → current_of c.sessions ≡ Some x → x.established_at ≡ now → x.sending_key_counter ≡ 0
+    → (encrypt_keepalive c now).keepalive ≡ Some (x.sending_index, 0)
 unfolding encrypt_keepalive
 keepalive_sent c x now p e z =
     ap (λ (y : Encrypted). y.keepalive) (found_or (sending_session c.sessions now) x _ _ (fresh_sending c.sessions x now p e z)
@@ -122,7 +113,7 @@ pub confirming_sessions : (c : Control) (local now : ℕ) → (confirming c loca
 unfolding confirming
 confirming_sessions c local now = confirmed_sessions _ _ now
 
-established_good : (c : Control) (x : Session) (local now : ℕ) → current_of (set_current c.sessions local) ≡ Got x
+established_good : (c : Control) (x : Session) (local now : ℕ) → current_of (set_current c.sessions local) ≡ Some x
     → x.established_at ≡ now → x.sending_key_counter ≡ 0
     → establish c local now ≡ done (encrypt_keepalive (confirming c local now) now).control (Keepalive x.sending_index 0)
 unfolding establish
@@ -140,11 +131,11 @@ module _ (c : Control) (handshake : Handshake) (store : List ℕ) (receiver peer
   stored_sound : SoundSessions stored.sessions now
   stored_sound = insert_sound now c.sessions store its (its_sessions c now w) (new_within now receiver peer now _ Initiator (omega arith))
 
-  newest : (y : Session) → current_of stored.sessions ≡ Got y → y.established_at ≤ (with_id its c.sessions.inserted).established_at
+  newest : (y : Session) → current_of stored.sessions ≡ Some y → y.established_at ≤ (with_id its c.sessions.inserted).established_at
   unfolding new_session
   newest y p = current_established stored.sessions now stored_sound.within (current_of stored.sessions) y p refl
 
-  pub response_current : current_of (set_current stored.sessions receiver) ≡ Got (with_id its c.sessions.inserted)
+  pub response_current : current_of (set_current stored.sessions receiver) ≡ Some (with_id its c.sessions.inserted)
   response_current = newest_current stored.sessions receiver _ (inserted_found c.sessions store receiver peer Initiator now w.eight l) newest
 
   pub response_good : complete c handshake store its receiver now

@@ -9,11 +9,8 @@ use lib.Dec.{ltb}
 use lib.ListN.{length}
 use borrow.Author.Tests.{leb-true, leb-false, lt-ltb, le-ltb}
 use Rattle.base.proofs.Choice.{of_choice, same_choice}
-use Rattle.base.specs.Choice.{choose}
-use Rattle.sessions.specs.Cases.{case_time}
+use Rattle.base.specs.Choice.{choose, case_option, case_result}
 use Rattle.sessions.specs.Session.{time_limit, due_by}
-use Rattle.sessions.specs.declared.session.Time.TheVariants.{Never, At}
-use Rattle.sessions.specs.declared.session.Time.{Time}
 use Rattle.tunnel.proofs.BadArguments.{jittered}
 use Rattle.tunnel.proofs.Deadline.{deadline_answer}
 use Rattle.tunnel.proofs.Facts.{undamaged_facts, undamaged_holds}
@@ -23,7 +20,7 @@ use Rattle.tunnel.proofs.Repeated.{living, three_most}
 use Rattle.tunnel.proofs.SoundCalls.{its_control, timed_sound}
 use Rattle.tunnel.proofs.SoundWaking.{timeout_sound}
 use Rattle.tunnel.proofs.Stores.{timeout_store}
-use Rattle.tunnel.proofs.TurnedDown.{refused_number, of_turn}
+use Rattle.tunnel.proofs.TurnedDown.{refused_counts, of_turn}
 use Rattle.tunnel.specs.Answer.{number_of}
 use Rattle.tunnel.specs.Arguments.{bad_jitter}
 use Rattle.tunnel.specs.Control.{with_events, expired_control}
@@ -41,6 +38,9 @@ use Rattle.tunnel.specs.declared.answer.Answer.TheVariants.{Deadline}
 use Rattle.tunnel.specs.declared.control.Control.{Control}
 use Rattle.tunnel.specs.declared.ring_buffer.RingBuffer.{RingBuffer}
 use Rattle.tunnel.specs.declared.tunnel.Tunnel.{Tunnel}
+use Rattle.std.specs.Prelude.{None, Option, Some, Ok, Result}
+use Rattle.tunnel.specs.declared.answer.Answer.{Answer}
+use Rattle.error.specs.declared.Error.{Error}
 
 -- the next deadline does not look at the events
 next_same : (c : Control) (r : RingBuffer) → next_deadline (with_events c r) ≡ next_deadline c
@@ -72,26 +72,26 @@ module _ (t : Tunnel) (u : Undamaged t) where
       })
 
   -- the deadline of a tunnel without its events
-  deadline_is : (call_deadline (without_events t)).answer ≡ Deadline (choose (expired_control t.control) Never (not_before (next_deadline t.control) t.last_update))
+  deadline_is : (call_deadline (without_events t)).answer ≡ Ok (Deadline (choose (expired_control t.control) None (not_before (next_deadline t.control) t.last_update)))
   unfolding poll_timeout choose
   deadline_is =
       deadline_answer (without_events t) eventless
       ∙ rw (expired_same t.control new_ring, new_empty, next_same t.control new_ring) refl
 
 -- a deadline that has come, and one that has not
-come_at : (next : Time) (last now : ℕ) → last ≤ now → due_by next now ≡ true → (at : ℕ) × (not_before next last ≡ At at) × (at ≤ now)
-unfolding due_by not_before case_time
-come_at Never last now l d = absurd (true≢false (sym d))
-come_at (At a) last now l d = (choose (ltb a last) last a, refl, of_choice (λ (x : ℕ). x ≤ now) _ _ _ l (leb-true a now d))
+come_at : (next : Option ℕ) (last now : ℕ) → last ≤ now → due_by next now ≡ true → (at : ℕ) × (not_before next last ≡ Some at) × (at ≤ now)
+unfolding due_by not_before case_option
+come_at None last now l d = absurd (true≢false (sym d))
+come_at (Some a) last now l d = (choose (ltb a last) last a, refl, of_choice (λ (x : ℕ). x ≤ now) _ _ _ l (leb-true a now d))
 
-data Later (time : Time) (now : ℕ) : Type 0 where
-  never : time ≡ Never → Later time now
-  above : (at : ℕ) → time ≡ At at → now < at → Later time now
+data Later (time : Option ℕ) (now : ℕ) : Type 0 where
+  never : time ≡ None → Later time now
+  above : (at : ℕ) → time ≡ Some at → now < at → Later time now
 
-later_at : (next : Time) (last now : ℕ) → last ≤ now → due_by next now ≡ false → Later (not_before next last) now
-unfolding due_by not_before case_time choose
-later_at Never last now l d = never refl
-later_at (At a) last now l d =
+later_at : (next : Option ℕ) (last now : ℕ) → last ≤ now → due_by next now ≡ false → Later (not_before next last) now
+unfolding due_by not_before case_option choose
+later_at None last now l d = never refl
+later_at (Some a) last now l d =
     let b : now < a = leb-false a now d in
     above a (rw (le-ltb a last (omega arith)) refl) b
 
@@ -119,11 +119,11 @@ module _ (t : Tunnel) (u : Undamaged t) (now : ℕ) (l : t.last_update ≤ now) 
       go false e = by e (later_at (next_deadline t.control) t.last_update now l (rw e at d))
 
 -- a repetition has one end
-same_time : (a b : ℕ) → Deadline (At a) ≡ Deadline (At b) → a ≡ b
+same_time : (a b : ℕ) → ◌≡◌ {A = Result Answer Error} (Ok (Deadline (Some a))) (Ok (Deadline (Some b))) → a ≡ b
 same_time a b e = cc
 
-not_none : (a : ℕ) → Deadline (At a) ≡ Deadline Never → ⊥
-not_none a e = let z : ◌≡◌ {A = ℕ} 0 1 = cc in omega arith
+not_none : (a : ℕ) → ◌≡◌ {A = Result Answer Error} (Ok (Deadline (Some a))) (Ok (Deadline None)) → ⊥
+not_none a e = cc
 
 apart : (t : Tunnel) (now : ℕ) → HasCome t now → IsLater t now → ⊥
 apart t now c (none e) = not_none _ (sym c.deadline ∙ e)
@@ -150,7 +150,7 @@ module _ (jitter now : ℕ) (n : now ≤ time_limit) (j : jitter ≤ max_jitter)
     updated : t.last_update ≤ now
     updated = let a = whole.updated in let b = o.onward in omega arith
 
-    passes : gate t (bad_jitter jitter store) now ≡ 0
+    passes : gate t (bad_jitter jitter store) now ≡ Ok tt
     unfolding gate choose
     passes =
         rw (le-ltb time_limit now n, (jittered jitter store).from (o.long, j), o.sound.holds, le-ltb now t.greatest o.onward) refl
@@ -159,11 +159,11 @@ module _ (jitter now : ℕ) (n : now ≤ time_limit) (j : jitter ≤ max_jitter)
     module _ (living : expired_control t.control ≡ false) where
       woken_is : (call_timeout t store jitter now).answered.tunnel
           ≡ record { control = (handle_timeout t.control store jitter now).out.control; last_update = now; greatest = now }
-      unfolding call_timeout timed_turn timed let_through handle_timeout choose
+      unfolding call_timeout timed_turn timed let_through handle_timeout choose case_result
       woken_is = rw (passes, living) refl
 
       store_is : (call_timeout t store jitter now).store ≡ (handle_timeout t.control store jitter now).store
-      unfolding call_timeout timed_turn kept choose
+      unfolding call_timeout timed_turn kept choose case_result
       store_is = rw passes refl
 
     still_sound : Sound (call_timeout t store jitter now).answered.tunnel
@@ -241,7 +241,7 @@ module _ (jitter now : ℕ) (n : now ≤ time_limit) (j : jitter ≤ max_jitter)
     three = wakings_of 3 t store
 
     settle_ends : Settles t store jitter now
-    unfolding call_settle timed_turn timed kept let_through settle choose
+    unfolding call_settle timed_turn timed kept let_through settle choose case_result
     settle_ends =
         record {
           wakings = three.wakings;
@@ -254,17 +254,17 @@ module _ (jitter now : ℕ) (n : now ≤ time_limit) (j : jitter ≤ max_jitter)
 
 -- a settling that is not turned down was let through
 module _ (t : Tunnel) (store : List ℕ) (jitter now : ℕ) where
-  settle_passed : number_of (call_settle t store jitter now).answered.answer ≡ 0 → gate t (bad_jitter jitter store) now ≡ 0
+  settle_passed : number_of (call_settle t store jitter now).answered.answer ≡ 0 → gate t (bad_jitter jitter store) now ≡ Ok tt
   unfolding call_settle
   settle_passed =
-      of_turn t (bad_jitter jitter store) now (λ (a : Called). number_of a.answered.answer ≡ 0 → gate t (bad_jitter jitter store) now ≡ 0) store _
-      (λ z e. z) (λ z e. absurd (z (rw (refused_number t (gate t (bad_jitter jitter store) now)) at e)))
+      of_turn t (bad_jitter jitter store) now (λ (a : Called). number_of a.answered.answer ≡ 0 → gate t (bad_jitter jitter store) now ≡ Ok tt) store _
+      (λ z e. z) (λ error z e. absurd (refused_counts t error e))
 
   module _ (eight : length t.control.sessions.slots ≡ 8) (sixteen : length t.control.events.slots ≡ 16)
       (e : number_of (call_settle t store jitter now).answered.answer ≡ 0) where
     pub settle_comes : Settles t store jitter now
     settle_comes =
-        let z : gate t (bad_jitter jitter store) now ≡ 0 = settle_passed e in
+        let z : gate t (bad_jitter jitter store) now ≡ Ok tt = settle_passed e in
         let good : bad_jitter jitter store ≡ false = gate_good t _ now z in
         settle_ends jitter now (gate_now t _ now z) (small_jitter jitter store _ refl good) t store
         (record {

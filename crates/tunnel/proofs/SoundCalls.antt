@@ -11,26 +11,26 @@ use borrow.Author.Tests.{eqb-true, eqb-false}
 use Rattle.base.specs.Choice.{choose}
 use Rattle.tunnel.proofs.Kept.{never_within, on_new, on_new_handshake, on_new_ring}
 use Rattle.tunnel.proofs.SoundOperations.{SoundOut, SoundStill}
-use Rattle.base.proofs.Choice.{known_choice, no_fault}
+use Rattle.base.proofs.Choice.{known_choice, no_fault, known_result, of_result}
 use Rattle.tunnel.proofs.SoundSteps.{SoundControl, eight_empty}
 use Rattle.tunnel.proofs.Steps.{all_empty}
 use Rattle.tunnel.specs.Control.{new_control}
 use Rattle.tunnel.specs.declared.control.Out.{Out}
 use Rattle.tunnel.proofs.Queue.{queue_of_newest}
 use Rattle.tunnel.specs.Timers.{IntervalWithin, greatest_interval}
-use Rattle.tunnel.specs.declared.timers.Interval.TheVariants.{Off, Every}
-use Rattle.tunnel.specs.declared.timers.Interval.{Interval}
 use Rattle.sessions.specs.Session.{time_limit}
 use Rattle.sessions.specs.Sessions.{new_sessions}
 use Rattle.sessions.specs.Store.{whole}
 use Rattle.tunnel.proofs.Facts.{undamaged_facts, undamaged_holds}
 use Rattle.tunnel.proofs.Framed.{gate_onward, gate_now, gate_good, GoodCreation, good_creation}
-use Rattle.tunnel.specs.Arguments.{interval_of, lacking, bad_outcome, creation_number}
+use Rattle.tunnel.specs.Arguments.{interval_of, lacking, bad_outcome, creation_number, unnamed}
 use Rattle.tunnel.specs.Facts.{Undamaged}
 use Rattle.tunnel.specs.Sound.{Sound}
 use Rattle.tunnel.specs.Tunnel.{new_tunnel, gate, timeless_gate, refused, let_through, timed, timeless}
 use Rattle.tunnel.specs.declared.tunnel.Answered.{Answered}
 use Rattle.tunnel.specs.declared.tunnel.Tunnel.{Tunnel}
+use Rattle.std.specs.Prelude.{None, Option, Some, Result, Ok}
+use Rattle.error.specs.declared.Error.{Error}
 
 -- a sound tunnel's control, and a tunnel with a sound control
 pub its_control : (t : Tunnel) → Sound t → SoundControl t.control t.greatest
@@ -70,39 +70,37 @@ module _ (t : Tunnel) (s : Sound t) where
       → Sound (timed t bad now out).tunnel
   unfolding timed refused
   timed_sound bad now out o =
-      known_choice (λ (y : Answered). Sound y.tunnel) (eqb (gate t bad now) 0) _ _
-      (λ e.
-      let z : gate t bad now ≡ 0 = eqb-true _ 0 e in
+      known_result (λ (y : Answered). Sound y.tunnel) (gate t bad now) _ _ (λ error. s)
+      (λ passed z.
       let m : t.greatest ≤ now = gate_onward t bad now z in
       let_through_sound now out (gate_now t bad now z) m (o (gate_good t bad now z) m))
-      (λ e. s)
 
   pub timeless_sound : (bad : Bool) (out : Out) → SoundStill out t.greatest → Sound (timeless t bad out).tunnel
   unfolding timeless refused
   timeless_sound bad out o =
-      known_choice (λ (y : Answered). Sound y.tunnel) (eqb (timeless_gate t bad) 0) _ _ (λ e. still_through_sound out o) (λ e. s)
+      of_result (λ (y : Answered). Sound y.tunnel) (timeless_gate t bad) _ _ (λ error. s) (λ passed. still_through_sound out o)
 
 -- a store that comes with a good outcome
-pub good_store : (found : ℕ) (store : List ℕ) → bad_outcome found store ≡ false → length store ≡ 1024
+pub good_store : (found : Option (Result Unit Error)) (store : List ℕ) → bad_outcome found store ≡ false → length store ≡ 1024
 unfolding bad_outcome lacking
-good_store found store e = eqb-true (length store) 1024 (no_fault (eqb found 2) (whole store) e)
+good_store found store e = eqb-true (length store) 1024 (no_fault (unnamed found) (whole store) e)
 
 -- the keepalive of a creation
-off_within : IntervalWithin Off
+off_within : IntervalWithin None
 off_within = record { least = λ s p. let z : ◌≡◌ {A = ℕ} 0 1 = cc in absurd (omega arith); greatest = λ s p. let z : ◌≡◌ {A = ℕ} 0 1 = cc in absurd (omega arith) }
 
-every_within : (seconds : ℕ) → 1 ≤ seconds → seconds ≤ greatest_interval → IntervalWithin (Every seconds)
+every_within : (seconds : ℕ) → 1 ≤ seconds → seconds ≤ greatest_interval → IntervalWithin (Some seconds)
 every_within seconds l m =
     record { least = λ s p. let e : seconds ≡ s = cc in omega arith; greatest = λ s p. let e : seconds ≡ s = cc in omega arith }
 
 interval_within : (keepalive : ℕ) → keepalive ≤ greatest_interval → IntervalWithin (interval_of keepalive)
 unfolding interval_of
 interval_within keepalive m =
-    known_choice IntervalWithin (eqb keepalive 0) Off (Every keepalive) (λ e. off_within)
+    known_choice IntervalWithin (eqb keepalive 0) None (Some keepalive) (λ e. off_within)
     (λ e. let n : keepalive ≡ 0 → ⊥ = eqb-false keepalive 0 e in every_within keepalive (omega arith) m)
 
 -- a creation
-new_sound : (index : ℕ) (interval : Interval) (now : ℕ) → IntervalWithin interval → SoundControl (new_control index interval now) now
+new_sound : (index : ℕ) (interval : Option ℕ) (now : ℕ) → IntervalWithin interval → SoundControl (new_control index interval now) now
 unfolding new_control new_sessions
 new_sound index interval now i =
     record {
@@ -122,7 +120,7 @@ unfolding new_tunnel
 made_sound index keepalive now k l = tunnel_sound _ l (omega arith) (new_sound index (interval_of keepalive) now (interval_within keepalive k))
 
 module _ (store : List ℕ) (index keepalive now : ℕ) where
-  pub good_made : creation_number store keepalive now ≡ 0 → Sound (new_tunnel index keepalive now)
-  good_made z =
-      let g : GoodCreation store keepalive now = good_creation store keepalive now z in
+  pub good_made : {passed : Unit} → creation_number store keepalive now ≡ Ok passed → Sound (new_tunnel index keepalive now)
+  good_made {passed} z =
+      let g : GoodCreation keepalive now = good_creation store keepalive now z in
       made_sound index keepalive now g.keepalive g.time

@@ -1,4 +1,4 @@
--- Every operation keeps a sound control sound.
+-- Some operation keeps a sound control sound.
 -- Assumes nothing.
 use mathlib.Core.Path.{◌≡◌, refl, sym, ◌∙◌}
 use mathlib.Core.Bool.{Bool, true, false, true≢false}
@@ -7,13 +7,11 @@ use Prim.Native.Nat.{ℕ, ◌≤◌}
 use native.Mathlib.Omega.{arith}
 use lib.ListN.{length}
 use Rattle.tunnel.proofs.Kept.{get_or_within, on_sent, on_data_sent, on_response, on_done, on_append, on_both_none, on_cookie, on_pop, on_accepted}
-use Rattle.tunnel.specs.Cases.{known_completed, known_cookie}
 use Rattle.tunnel.proofs.Opened.{initiation_opened, response_opened, cookie_stored}
 use Rattle.tunnel.proofs.Responses.{response_good}
 use Rattle.tunnel.proofs.SoundSending.{sound_encrypted, sound_initiated}
-use Rattle.sessions.specs.Cases.{known_found, known_reserved, of_found, of_missing, known_received}
 use Rattle.tunnel.proofs.SoundSteps.{SoundControl, OwnSlot, counted_within, new_within, sending_within, put_sound, insert_sound, current_sound, index_sound, sound_later, its_sessions, sound_timers, sound_handshake, sound_sessions, sound_queued, receive_sound, SoundSessions}
-use Rattle.base.proofs.Choice.{of_choice}
+use Rattle.base.proofs.Choice.{of_choice, known_option, known_pair, known_result, known_results, of_option, of_result}
 use Rattle.tunnel.specs.Control.{Turn, with_events, with_established, with_handshake, out_of, refuse, done, poll_event, missing_report}
 use Rattle.tunnel.specs.Facts.{EventWithin}
 use Rattle.tunnel.specs.HandleHandshake.{responding, respond, handle_handshake_initiation, confirming, handle_handshake_response, handle_cookie_reply}
@@ -27,15 +25,16 @@ use Rattle.tunnel.proofs.Queue.{queue_of_newest}
 use Rattle.tunnel.specs.Handshake.{with_states, append_mac1_and_mac2, receive_cookie_reply}
 use Rattle.tunnel.specs.RingBuffer.{pop_front}
 use Rattle.tunnel.specs.declared.event.Event.TheVariants.{Established}
-use Rattle.tunnel.specs.declared.handshake.Cookie.TheVariants.{Stored}
 use Rattle.tunnel.specs.declared.handshake.Handshake.{Handshake}
-use Rattle.tunnel.specs.declared.handshake.HandshakeState.TheVariants.{None}
+use Rattle.tunnel.specs.declared.handshake.HandshakeState.TheVariants.{None as NoHandshake}
 use Rattle.sessions.specs.Batch.{Batched}
 use Rattle.sessions.specs.Session.{new_session, reserve_counters, prepare_packet_data}
 use Rattle.sessions.specs.Sessions.{sending_session, put}
 use Rattle.sessions.specs.declared.batch.Progress.{Progress}
 use Rattle.sessions.specs.declared.session.Role.TheVariants.{Initiator, Responder}
 use Rattle.sessions.specs.declared.session.Session.{Session}
+use Rattle.std.specs.Prelude.{Ok, Result, Some}
+use Rattle.error.specs.declared.Error.{Error}
 
 -- what an operation at a time hands back: its control is sound below that time where it raises the greatest time, else below the old one
 pub record SoundOut (out : Out) (old now : ℕ) : Type 0 where
@@ -51,12 +50,12 @@ pub record SoundStill (out : Out) (old : ℕ) : Type 0 where
 
 -- the kinds of answers
 module _ (old : ℕ) (c : Control) where
-  pub unraising : (answer : Answer) → SoundControl c old → SoundStill (out_of c answer false false) old
+  pub unraising : (answer : Result Answer Error) → SoundControl c old → SoundStill (out_of c answer false false) old
   unraising answer w = record { sound = w; unraised = refl; unticked = refl }
 
-  refusing : (number : ℕ) → SoundControl c old → SoundStill (refuse c number) old
+  refusing : (error : Error) → SoundControl c old → SoundStill (refuse c error) old
   unfolding refuse
-  refusing number w = unraising _ w
+  refusing error w = unraising _ w
 
 module _ (old now : ℕ) where
   staying : (out : Out) → SoundStill out old → SoundOut out old now
@@ -67,18 +66,18 @@ module _ (old now : ℕ) where
         ticked = λ e. absurd (true≢false (sym e ∙ s.unticked));
       }
 
-  refuse_sound : (c : Control) (number : ℕ) → SoundControl c old → SoundOut (refuse c number) old now
-  refuse_sound c number w = staying _ (refusing old c number w)
+  refuse_sound : (c : Control) (error : Error) → SoundControl c old → SoundOut (refuse c error) old now
+  refuse_sound c error w = staying _ (refusing old c error w)
 
-  pub raising : (c : Control) (answer : Answer) (updates : Bool) → SoundControl c now → SoundOut (out_of c answer true updates) old now
+  pub raising : (c : Control) (answer : Result Answer Error) (updates : Bool) → SoundControl c now → SoundOut (out_of c answer true updates) old now
   raising c answer updates w = record { raised = λ e. w; still = λ e. absurd (true≢false e); ticked = λ e. refl }
 
   pub done_sound : (c : Control) (answer : Answer) → SoundControl c now → SoundOut (done c answer) old now
   unfolding done
-  done_sound c answer w = raising c answer false w
+  done_sound c answer w = raising c (Ok answer) false w
 
 -- an event of two times
-established_within : (a b most : ℕ) → a ≤ most → b ≤ most → EventWithin (Established a b) most
+established_within : (a b most : ℕ) → a ≤ most → b ≤ most → EventWithin (Some (Established a b)) most
 established_within a b most p q =
     record { started = λ x y e. let f : a ≡ x = cc in omega arith; confirmed = λ x y e. let f : b ≡ y = cc in omega arith }
 
@@ -163,7 +162,7 @@ module _ (old now : ℕ) (l : old ≤ now) (c : Control) (w : SoundControl c old
   finished_sound : (x : Session) (count : ℕ) (b : Control) → OwnSlot x now → SoundControl b now → SoundOut (finish_encapsulate b x count) old now
   unfolding finish_encapsulate
   finished_sound x count b v u =
-      known_reserved (λ (y : Out). SoundOut y old now) (reserve_counters x count) _ _ (raising old now b _ false u)
+      known_pair (λ (y : Out). SoundOut y old now) (reserve_counters x count) _ _ (raising old now b _ false u)
       (λ n y p. done_sound old now _ _ (sound_sessions b now u _ (put_sound now b.sessions y (its_sessions b now u) (counted_within now x y count n v p))))
 
   granted_sound : (x : Session) (count : ℕ) → OwnSlot x now → SoundOut (grant c x count now) old now
@@ -174,68 +173,68 @@ module _ (old now : ℕ) (l : old ≤ now) (c : Control) (w : SoundControl c old
   pub send_sound : (count : ℕ) → SoundOut (send c count now) old now
   unfolding send
   send_sound count =
-      of_choice (λ (y : Out). SoundOut y old now) _ _ _ (refuse_sound old now c 11 w)
-      (known_found (λ (y : Out). SoundOut y old now) (sending_session c.sessions now) _ _ (refuse_sound old now c 12 w)
+      of_choice (λ (y : Out). SoundOut y old now) _ _ _ (refuse_sound old now c _ w)
+      (known_option (λ (y : Out). SoundOut y old now) (sending_session c.sessions now) _ _ (refuse_sound old now c _ w)
       (λ x p. granted_sound x count (sending_within now c.sessions now x later.within.sessions p)))
 
   pub batch_sound : (store : List ℕ) (index id : ℕ) (counters kinds verdicts skips : List ℕ)
       → SoundOut (commit_decapsulate c store index id now counters kinds verdicts skips).out old now
   unfolding commit_decapsulate
   batch_sound store index id counters kinds verdicts skips =
-      of_choice (λ (y : Batched Out). SoundOut y.out old now) _ _ _ (refuse_sound old now c 11 w)
-      (known_received (λ (y : Out). SoundOut y old now) _ _ _ (λ n. refuse_sound old now c n w)
+      of_choice (λ (y : Batched Out). SoundOut y.out old now) _ _ _ (refuse_sound old now c _ w)
+      (known_results (λ (y : Out). SoundOut y old now) _ _ _ (λ n. refuse_sound old now c n w)
       (λ x p e. done_sound old now _ _ (sound_accept now now same c x p index
       (receive_sound c.sessions store index id now counters kinds verdicts skips later.within.sessions x p e) later)))
 
   pub look_sound : (store : List ℕ) (index counter : ℕ) → SoundOut (begin_decapsulate c store index counter now) old now
   unfolding begin_decapsulate
   look_sound store index counter =
-      of_choice (λ (y : Out). SoundOut y old now) _ _ _ (refuse_sound old now c 11 w)
-      (of_found (λ (y : Out). SoundOut y old now) _ _ _ (refuse_sound old now c 12 w)
-      (λ x. of_choice (λ (y : Out). SoundOut y old now) _ _ _ (refuse_sound old now c 12 w)
-      (of_choice (λ (y : Out). SoundOut y old now) _ _ _ (staying old now _ (unraising old c _ w)) (refuse_sound old now c _ w))))
+      of_choice (λ (y : Out). SoundOut y old now) _ _ _ (refuse_sound old now c _ w)
+      (of_option (λ (y : Out). SoundOut y old now) _ _ _ (refuse_sound old now c _ w)
+      (λ x. of_choice (λ (y : Out). SoundOut y old now) _ _ _ (refuse_sound old now c _ w)
+      (of_result (λ (y : Out). SoundOut y old now) _ _ _ (λ e. refuse_sound old now c e w) (λ y. staying old now _ (unraising old c _ w)))))
 
-  stored_sound : (h : Handshake) (receiver outcome : ℕ) → receive_cookie_reply c.handshake receiver outcome now ≡ Stored h → SoundControl (with_handshake c h) now
+  stored_sound : (h : Handshake) (receiver : ℕ) (outcome : Result Unit Error) → receive_cookie_reply c.handshake receiver outcome now ≡ Ok h → SoundControl (with_handshake c h) now
   stored_sound h receiver outcome p =
-      rw (← cookie_stored c.handshake h receiver outcome now p)
+      rw (← cookie_stored c.handshake h outcome receiver now p)
       (sound_handshake c now later _ (on_cookie c.handshake now later.within.handshake _ now same))
 
-  pub cookie_sound : (receiver outcome : ℕ) → SoundOut (handle_cookie_reply c receiver outcome now) old now
+  pub cookie_sound : (receiver : ℕ) (outcome : Result Unit Error) → SoundOut (handle_cookie_reply c receiver outcome now) old now
   unfolding handle_cookie_reply
   cookie_sound receiver outcome =
-      of_choice (λ (y : Out). SoundOut y old now) _ _ _ (refuse_sound old now c 11 w)
-      (known_cookie (λ (y : Out). SoundOut y old now) _ _ _ (λ n. refuse_sound old now c n w) (λ h p. done_sound old now _ _ (stored_sound h receiver outcome p)))
+      of_choice (λ (y : Out). SoundOut y old now) _ _ _ (refuse_sound old now c _ w)
+      (known_result (λ (y : Out). SoundOut y old now) _ _ _ (λ n. refuse_sound old now c n w) (λ h p. done_sound old now _ _ (stored_sound h receiver outcome p)))
 
-  pub response_sound : (store : List ℕ) (receiver peer outcome : ℕ) → length store ≡ 1024
+  pub response_sound : (store : List ℕ) (receiver peer : ℕ) (outcome : Result Unit Error) → length store ≡ 1024
       → SoundOut (handle_handshake_response c store receiver peer outcome now).out old now
   unfolding handle_handshake_response
   response_sound store receiver peer outcome long =
-      of_choice (λ (y : Turn). SoundOut y.out old now) _ _ _ (refuse_sound old now c 11 w)
-      (known_completed (λ (y : Turn). SoundOut y.out old now) _ _ _ (λ n. refuse_sound old now c n w)
+      of_choice (λ (y : Turn). SoundOut y.out old now) _ _ _ (refuse_sound old now c _ w)
+      (known_results (λ (y : Turn). SoundOut y.out old now) _ _ _ (λ n. refuse_sound old now c n w)
       (λ h s p.
-      let e : (with_states c.handshake None None ≡ h) × (new_session receiver peer Initiator now ≡ s)
-      = response_opened c.handshake h receiver peer outcome now s p in
-      rw (← e.0, ← e.1, response_good c (with_states c.handshake None None) store receiver peer now later long)
+      let e : (with_states c.handshake NoHandshake NoHandshake ≡ h) × (new_session receiver peer Initiator now ≡ s)
+      = response_opened c.handshake h outcome receiver peer now s p in
+      rw (← e.0, ← e.1, response_good c (with_states c.handshake NoHandshake NoHandshake) store receiver peer now later long)
       (done_sound old now _ _ (sound_encrypted now now same _ (sound_confirming now now same _ receiver
       (sound_sessions _ now (sound_handshake c now later _ (on_both_none c.handshake now later.within.handshake)) _
       (insert_sound now c.sessions store _ (its_sessions c now later) (new_within now receiver peer now _ Initiator same))))))))
 
 -- an incoming initiation, whose index is used up even where it is turned down
 module _ (old now : ℕ) (l : old ≤ now) where
-  respond_sound : (c : Control) (store : List ℕ) (local peer outcome : ℕ) → SoundControl c old → SoundOut (respond c store local peer outcome now).out old now
+  respond_sound : (c : Control) (store : List ℕ) (local peer : ℕ) (outcome : Result Unit Error) → SoundControl c old → SoundOut (respond c store local peer outcome now).out old now
   unfolding respond
   respond_sound c store local peer outcome w =
-      known_completed (λ (y : Turn). SoundOut y.out old now) _ _ _ (λ n. refuse_sound old now c n w)
+      known_results (λ (y : Turn). SoundOut y.out old now) _ _ _ (λ n. refuse_sound old now c n w)
       (λ h s p.
       let e : (append_mac1_and_mac2 c.handshake local ≡ h) × (new_session local peer Responder now ≡ s)
-      = initiation_opened c.handshake h local peer outcome now s p in
+      = initiation_opened c.handshake h outcome local peer now s p in
       rw (← e.0, ← e.1) (done_sound old now _ _ (sound_responding now now (same old now l c w) c store local peer (later old now l c w))))
 
-  pub initiation_sound : (c : Control) (store : List ℕ) (peer outcome : ℕ) → SoundControl c old
+  pub initiation_sound : (c : Control) (store : List ℕ) (peer : ℕ) (outcome : Result Unit Error) → SoundControl c old
       → SoundOut (handle_handshake_initiation c store peer outcome now).out old now
   unfolding handle_handshake_initiation
   initiation_sound c store peer outcome w =
-      of_choice (λ (y : Turn). SoundOut y.out old now) _ _ _ (refuse_sound old now c 11 w)
+      of_choice (λ (y : Turn). SoundOut y.out old now) _ _ _ (refuse_sound old now c _ w)
       (respond_sound _ store _ peer outcome (sound_sessions c old w _ (index_sound old c.sessions (its_sessions c old w))))
 
 -- the operations without a time
@@ -260,4 +259,4 @@ module _ (old : ℕ) (c : Control) (w : SoundControl c old) where
 
   pub missing_sound : (store : List ℕ) (index : ℕ) → SoundStill (missing_report c store index) old
   unfolding missing_report
-  missing_sound store index = of_missing (λ (y : Out). SoundStill y old) _ _ _ (λ n. refusing old c n w) (λ n. unraising old c _ w)
+  missing_sound store index = of_result (λ (y : Out). SoundStill y old) _ _ _ (λ n. refusing old c n w) (λ n. unraising old c _ w)

@@ -1,6 +1,6 @@
 -- A sound control and the steps that keep it sound: of its sessions, its timers and its events.
 -- Assumes nothing.
-use mathlib.Core.Path.{◌≡◌, refl}
+use mathlib.Core.Path.{◌≡◌, refl, ap}
 use mathlib.Core.Bool.{Bool, true, false}
 use mathlib.Core.List.{List, [], ◌∷◌}
 use Prim.Native.Nat.{ℕ, zero, suc, ◌+◌, ◌≤◌}
@@ -10,8 +10,7 @@ use lib.ListN.{length, get_or, set, length-set, length-replicate}
 use borrow.Author.Tests.{leb-true}
 use Rattle.base.specs.Choice.{choose}
 use Rattle.tunnel.proofs.Later.{current_within, control_later, slot_within}
-use Rattle.base.proofs.Choice.{of_choice}
-use Rattle.sessions.specs.Cases.{of_found, known_found}
+use Rattle.base.proofs.Choice.{of_choice, known_option, of_option, ok_parts}
 use Rattle.tunnel.proofs.Steps.{with_timers_lem, with_handshake_lem, with_sessions_lem, of_expire, on_expire, on_clear_sessions, queued_within}
 use Rattle.tunnel.specs.Control.{with_handshake, with_sessions, with_timers, queueing}
 use Rattle.tunnel.specs.Facts.{SlotWithin, SessionsWithin, EventWithin, ControlWithin}
@@ -28,13 +27,11 @@ use Rattle.sessions.specs.Index.{slot_of}
 use Rattle.sessions.specs.Session.{reject_after_messages, new_session, with_counter, with_id, reserve_counters, empty_session}
 use Rattle.sessions.specs.Sessions.{Held, empty_slots, put, current_of, inserting, insert, select, set_current, next_index, sending_session, clear, emptied, expire}
 use Rattle.sessions.specs.declared.batch.Progress.{Progress}
-use Rattle.sessions.specs.declared.batch.Received.{Received}
-use Rattle.sessions.specs.declared.batch.Received.TheVariants.{Rejected, Judged}
-use Rattle.sessions.specs.declared.session.Reserved.TheVariants.{TooFew, First}
 use Rattle.sessions.specs.declared.session.Role.{Role}
 use Rattle.sessions.specs.declared.session.Session.{Session}
-use Rattle.sessions.specs.declared.sessions.Found.TheVariants.{Got}
 use Rattle.sessions.specs.declared.sessions.Sessions.{Sessions}
+use Rattle.std.specs.Prelude.{Err, None, Ok, Result, Some, Option}
+use Rattle.error.specs.declared.Error.{Error}
 
 -- sessions that number 14 lets through, in eight slots
 pub record SoundSessions (s : Sessions) (most : ℕ) : Type 0 where
@@ -48,9 +45,9 @@ pub record SoundControl (c : Control) (most : ℕ) : Type 0 where
   pub sixteen : length c.events.slots ≡ 16
 
 -- a reservation changes the send counter only, and keeps it in range
-of_granted : (f : Bool) (m n : ℕ) (x y : Session) → choose f (First m x) TooFew ≡ First n y → (f ≡ true) × (x ≡ y)
+of_granted : (f : Bool) (m n : ℕ) (x y : Session) → choose {A = Option (ℕ × Session)} f (Some (m, x)) None ≡ Some (n, y) → (f ≡ true) × (x ≡ y)
 unfolding choose
-of_granted true m n x y p = (refl, (cc))
+of_granted true m n x y p = let e : ◌≡◌ {A = ℕ × Session} (m, x) (n, y) = cc in (refl, ap (λ (z : ℕ × Session). z.1) e)
 of_granted false m n x y p = let z : ◌≡◌ {A = ℕ} 0 1 = cc in absurd (omega arith)
 
 -- a session that number 14 lets through in its own slot
@@ -58,7 +55,7 @@ abbrev pub OwnSlot : Session → ℕ → Type 0
 OwnSlot x most = SlotWithin x (slot_of x.receiving_index) most
 
 module _ (most : ℕ) where
-  pub counted_within : (x y : Session) (count n : ℕ) → OwnSlot x most → reserve_counters x count ≡ First n y → OwnSlot y most
+  pub counted_within : (x y : Session) (count n : ℕ) → OwnSlot x most → reserve_counters x count ≡ Some (n, y) → OwnSlot y most
   unfolding reserve_counters
   counted_within x y count n w p =
       let q : (leb (x.sending_key_counter + count) reject_after_messages ≡ true) × (with_counter x (x.sending_key_counter + count) ≡ y) = of_granted _ _ _ _ _ p in
@@ -68,7 +65,7 @@ module _ (most : ℕ) where
   unfolding new_session
   new_within local peer now id role h = record { established = h; onward = omega arith; heard = h; counter = omega arith; next = omega arith; index = refl }
 
-  pub sending_within : (s : Sessions) (now : ℕ) (x : Session) → SessionsWithin s most → sending_session s now ≡ Got x → OwnSlot x most
+  pub sending_within : (s : Sessions) (now : ℕ) (x : Session) → SessionsWithin s most → sending_session s now ≡ Some x → OwnSlot x most
   sending_within s now x w p = current_within s most w (current_of s) x ((lookup_law s).sending now x p).0 refl
 
   -- what holds of a session put into a slot and of every other one holds of each
@@ -106,8 +103,8 @@ module _ (most : ℕ) where
   unfolding set_current
   current_sound s index w =
       of_choice (λ (y : Sessions). SoundSessions y most) _ _ _ w
-      (of_found (λ (y : Sessions). SoundSessions y most) _ _ _ w
-      (λ x. of_found (λ (y : Sessions). SoundSessions y most) _ _ _ (select_sound s index w)
+      (of_option (λ (y : Sessions). SoundSessions y most) _ _ _ w
+      (λ x. of_option (λ (y : Sessions). SoundSessions y most) _ _ _ (select_sound s index w)
       (λ z. of_choice (λ (y : Sessions). SoundSessions y most) _ _ _ w (select_sound s index w))))
 
   pub index_sound : (s : Sessions) → SoundSessions s most → SoundSessions (next_index s).sessions most
@@ -140,24 +137,24 @@ module _ (most : ℕ) where
       }
 
 -- the session that a judged batch leaves is one that number 14 lets through
-abbrev SoundReceived : Received → ℕ → Type 0
-SoundReceived r most = (x : Session) (p : Progress) → r ≡ Judged x p → OwnSlot x most
+abbrev SoundReceived : Result (Session × Progress) Error → ℕ → Type 0
+SoundReceived r most = (x : Session) (p : Progress) → r ≡ Ok (x, p) → OwnSlot x most
 
 module _ (most : ℕ) where
-  rejected_sound : (number : ℕ) → SoundReceived (Rejected number) most
-  rejected_sound number x p e = absurd (let z : ◌≡◌ {A = ℕ} 0 1 = cc in omega arith)
+  rejected_sound : (error : Error) → SoundReceived (Err error) most
+  rejected_sound error x p e = absurd (cc)
 
-  judged_sound : (x : Session) (p : Progress) → OwnSlot x most → SoundReceived (Judged x p) most
-  judged_sound x p w y q e = let same : x ≡ y = cc in rw (← same) w
+  judged_sound : (x : Session) (p : Progress) → OwnSlot x most → SoundReceived (Ok (x, p)) most
+  judged_sound x p w y q e = let same : x ≡ y = (ok_parts x y p q e).0 in rw (← same) w
 
 -- one that was sound below the batch's own time
 pub receive_sound : (s : Sessions) (store : List ℕ) (index id now : ℕ) (counters kinds verdicts skips : List ℕ) → SessionsWithin s now
     → SoundReceived (receive s store index id now counters kinds verdicts skips).out now
 unfolding receive
 receive_sound s store index id now counters kinds verdicts skips w =
-    of_choice (λ (y : Batched Received). SoundReceived y.out now) _ _ _
-    (of_choice (λ (y : Batched Received). SoundReceived y.out now) _ _ _
-    (known_found (λ (y : Batched Received). SoundReceived y.out now) (receiving_session s index id now) _ _ (rejected_sound now 12)
+    of_choice (λ (y : Batched (Result (Session × Progress) Error)). SoundReceived y.out now) _ _ _
+    (of_choice (λ (y : Batched (Result (Session × Progress) Error)). SoundReceived y.out now) _ _ _
+    (known_option (λ (y : Batched (Result (Session × Progress) Error)). SoundReceived y.out now) (receiving_session s index id now) _ _ (rejected_sound now _)
     (λ x p.
     let v : SlotWithin x (slot_of index) now = slot_within s now w index x ((lookup_law s).receiving index id now x p).0 in
     judged_sound now _ _
@@ -169,8 +166,8 @@ receive_sound s store index id now counters kinds verdicts skips w =
       next = (next_law _ _ counters kinds).within v.next;
       index = refl;
     })))
-    (rejected_sound now 2))
-    (rejected_sound now 2)
+    (rejected_sound now _))
+    (rejected_sound now _)
 
 -- a control that is sound below one time is sound below every later one
 pub sound_later : (a b : ℕ) → a ≤ b → (c : Control) → SoundControl c a → SoundControl c b
@@ -198,5 +195,5 @@ module _ (c : Control) (most : ℕ) (w : SoundControl c most) where
   unfolding queueing
   still_eight event = w.eight
 
-  pub sound_queued : (event : Event) → EventWithin event most → SoundControl (queueing c event) most
+  pub sound_queued : (event : Event) → EventWithin (Some event) most → SoundControl (queueing c event) most
   sound_queued event v = record { within = queued_within c most w.within event w.sixteen v; eight = still_eight event; sixteen = still_long event }

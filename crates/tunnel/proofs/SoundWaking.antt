@@ -8,10 +8,9 @@ use native.Mathlib.Omega.{arith}
 use Rattle.tunnel.proofs.Facts.{no_times}
 use Rattle.tunnel.proofs.Kept.{on_clear, on_expired, on_clear_cookie, on_kept, on_schedule, on_cancel, on_consume}
 use Rattle.tunnel.proofs.SoundOperations.{SoundOut, done_sound, raising}
-use Rattle.tunnel.specs.Cases.{of_datagram}
 use Rattle.tunnel.proofs.SoundSending.{sound_encrypted, sound_initiated}
 use Rattle.tunnel.proofs.SoundSteps.{SoundControl, expire_sound, clear_sound, its_sessions, sound_timers, sound_handshake, sound_sessions, sound_queued, sound_later}
-use Rattle.base.proofs.Choice.{of_choice}
+use Rattle.base.proofs.Choice.{of_choice, of_pair}
 use Rattle.tunnel.specs.Control.{Turn, with_handshake, done}
 use Rattle.tunnel.specs.declared.control.Control.{Control}
 use Rattle.tunnel.specs.Handshake.{HandshakeWithin, set_expired, expire_cookie}
@@ -28,7 +27,7 @@ module _ (most now : ℕ) (h : now ≤ most) where
   sound_keepalive : (c : Control) → SoundControl c most → SoundControl (queue_keepalive c now) most
   unfolding queue_keepalive
   sound_keepalive c w =
-      of_datagram (λ (y : Control). SoundControl y most) _ _ _ (sound_encrypted most now h c w)
+      of_pair (λ (y : Control). SoundControl y most) _ _ _ (sound_encrypted most now h c w)
       (λ a b. sound_queued _ most (sound_encrypted most now h c w) (SendKeepalive a b) (no_times _ most (λ x y p. let z : ◌≡◌ {A = ℕ} 0 1 = cc in omega arith)))
 
   within_passive : (c : Control) → TimersWithin c.timers most → TimersWithin (passive_timers c now) most

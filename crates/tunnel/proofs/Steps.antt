@@ -1,4 +1,4 @@
--- Every step of the operations keeps the facts of number 14, and the ring of events in range.
+-- Some step of the operations keeps the facts of number 14, and the ring of events in range.
 -- Assumes nothing.
 use mathlib.Core.Path.{◌≡◌, refl}
 use mathlib.Core.Bool.{true}
@@ -6,7 +6,7 @@ use mathlib.Core.List.{List, [], ◌∷◌}
 use Prim.Native.Nat.{ℕ, zero, suc, ◌<◌}
 use native.Mathlib.Omega.{arith}
 use lib.ListN.{length, get_or, set, get_or-replicate}
-use Rattle.sessions.proofs.Laws.{empty_law}
+use Rattle.sessions.proofs.Laws.{empty_law, expiry_law}
 use Rattle.tunnel.proofs.Kept.{on_push, on_clear_cookie}
 use Rattle.tunnel.specs.Control.{with_handshake, with_sessions, with_timers, queueing}
 use Rattle.tunnel.specs.Facts.{SlotWithin, SessionsWithin, EventWithin, ControlWithin}
@@ -20,17 +20,19 @@ use Rattle.tunnel.specs.declared.event.Event.{Event}
 use Rattle.tunnel.specs.declared.handshake.Handshake.{Handshake}
 use Rattle.tunnel.specs.declared.timers.Timers.{Timers}
 use Rattle.sessions.specs.Session.{empty_session}
-use Rattle.sessions.specs.Sessions.{with_slots, with_current, Held, empty_slots, clear, slot_at, emptied, Expiring, discard, expire_slot, expire_first, expire}
+use Rattle.sessions.specs.Sessions.{with_slots, with_current, Held, empty_slots, clear, slot_at, emptied, Expiring, discard, expire_slot, expire_first, expire, none_expired}
 use Rattle.sessions.specs.Store.{Leaves}
 use Rattle.sessions.specs.declared.session.Session.{Session}
 use Rattle.sessions.specs.declared.sessions.Expired.{Expired}
-use Rattle.sessions.specs.declared.sessions.Selected.TheVariants.{Unset}
-use Rattle.sessions.specs.declared.sessions.Selected.{Selected}
 use Rattle.sessions.specs.declared.sessions.Sessions.{Sessions}
-use Rattle.base.proofs.Choice.{of_choice}
+use Rattle.base.proofs.Choice.{of_choice, of_option, of_pair}
+use Rattle.std.specs.Prelude.{None, Option, Some}
+use Rattle.tunnel.specs.HandleTimeout.{clear_all}
+use Rattle.tunnel.specs.Encapsulate.{encrypt_keepalive}
+use Rattle.tunnel.specs.declared.encapsulate.Encrypted.{Encrypted}
 
 -- what emptying a slot and selecting none keep, an expiry keeps
-module _ (P : Sessions → Type 0) (empty : (s : Sessions) (slot : ℕ) → P s → P (emptied s slot)) (unset : (s : Sessions) → P s → P (with_current s Unset)) where
+module _ (P : Sessions → Type 0) (empty : (s : Sessions) (slot : ℕ) → P s → P (emptied s slot)) (unset : (s : Sessions) → P s → P (with_current s None)) where
   of_discard : (e : Expired) (slot : ℕ) → P e.sessions → P (discard e slot).sessions
   unfolding discard
   of_discard e slot w = of_choice (λ (x : Expired). P x.sessions) _ _ _ (unset _ (empty e.sessions slot w)) (empty e.sessions slot w)
@@ -66,11 +68,11 @@ module _ (most : ℕ) where
   unfolding emptied
   on_emptied s slot w = record { slots = λ k h f. same_slot s _ k w h (still_filled s.slots slot k f) f }
 
-  on_selected : (s : Sessions) (x : Selected) → SessionsWithin s most → SessionsWithin (with_current s x) most
+  on_selected : (s : Sessions) (x : Option ℕ) → SessionsWithin s most → SessionsWithin (with_current s x) most
   on_selected s x w = record { slots = w.slots }
 
   pub on_expire : (s : Sessions) (store : List ℕ) (now : ℕ) → SessionsWithin s most → SessionsWithin (expire s store now).expired.sessions most
-  on_expire s store now w = of_expire (λ (x : Sessions). SessionsWithin x most) on_emptied (λ x v. on_selected x Unset v) s store now w
+  on_expire s store now w = of_expire (λ (x : Sessions). SessionsWithin x most) on_emptied (λ x v. on_selected x None v) s store now w
 
 -- eight empty slots hold no session
 module _ (most : ℕ) where
@@ -81,7 +83,7 @@ module _ (most : ℕ) where
   pub on_clear_sessions : (s : Sessions) (store : List ℕ) → SessionsWithin s most → SessionsWithin (clear s store).sessions most
   unfolding clear
   on_clear_sessions s store w =
-      of_choice (λ (x : Held). SessionsWithin x.sessions most) _ _ _ (on_selected most (with_slots s empty_slots) Unset (all_empty s)) w
+      of_choice (λ (x : Held). SessionsWithin x.sessions most) _ _ _ (on_selected most (with_slots s empty_slots) None (all_empty s)) w
 
 -- a control with one part given anew
 module _ (c : Control) (most : ℕ) (w : ControlWithin c most) where
@@ -105,7 +107,7 @@ module _ (c : Control) (most : ℕ) (w : ControlWithin c most) where
       → Leaves e (expire c.sessions store now).expired left (expire c.sessions store now).store → ControlWithin (with_sessions c e.sessions) most
   expiry_within e store left now l = with_sessions_lem e.sessions (rw l.out (on_expire most c.sessions store now w.sessions))
 
-  pub queued_within : (event : Event) → length c.events.slots ≡ 16 → EventWithin event most → ControlWithin (queueing c event) most
+  pub queued_within : (event : Event) → length c.events.slots ≡ 16 → EventWithin (Some event) most → ControlWithin (queueing c event) most
   unfolding queueing
   queued_within event long v =
       record {
@@ -116,8 +118,24 @@ module _ (c : Control) (most : ℕ) (w : ControlWithin c most) where
         events = on_push most c.events long w.events event v;
       }
 
+-- no session is due
+pub undiscarded : (s : Sessions) (store : List ℕ) (now : ℕ) → none_expired s now ≡ true
+    → expire s store now ≡ record { expired = record { sessions = s; current = None }; store = store }
+undiscarded s store now p = (expiry_law s store now).none p
+
+-- the ring of events stays in range where a keepalive is taken
+pub encrypted_ring : (c : Control) (now : ℕ) → RingWithin c.events → RingWithin (encrypt_keepalive c now).control.events
+unfolding encrypt_keepalive
+encrypted_ring c now r = of_option (λ (e : Encrypted). RingWithin e.control.events) _ _ _ r (λ s. of_pair (λ (e : Encrypted). RingWithin e.control.events) _ _ _ r (λ n x. r))
+
 -- the ring of events stays in range where an initiation is sent
 module _ (c : Control) (now : ℕ) (r : RingWithin c.events) where
   pub initiated_ring : (x : Initiated) → x ≡ initiate c now → RingWithin x.control.events
   unfolding initiate initiating
   initiated_ring x e = rw e r
+
+-- the ring of events stays in range where a control is cleared
+pub cleared_ring : (c : Control) (now : ℕ) → RingWithin c.events → (x : Control) (store left : List ℕ)
+    → Leaves x (clear_all c store now).control left (clear_all c store now).store → RingWithin x.events
+unfolding clear_all
+cleared_ring c now r x store left l = rw l.out r

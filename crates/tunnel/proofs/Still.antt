@@ -4,20 +4,15 @@ use mathlib.Core.Path.{◌≡◌, refl, ap, sym}
 use mathlib.Core.Bool.{Bool, true, false, true≢false}
 use mathlib.Core.List.{List, []}
 use Prim.Native.Nat.{ℕ}
-use native.Mathlib.Omega.{arith}
 use lib.ListN.{length, drop}
 use Rattle.base.proofs.Choice.{of_choice}
-use Rattle.base.specs.Choice.{choose}
+use Rattle.base.specs.Choice.{choose, case_results}
 use Rattle.sessions.proofs.Laws.{empty_batch_law}
 use Rattle.sessions.specs.Batch.{Batched, receive}
-use Rattle.sessions.specs.Cases.{case_received}
-use Rattle.sessions.specs.declared.batch.Received.TheVariants.{Rejected, Judged}
-use Rattle.sessions.specs.declared.batch.Received.{Received}
-use Rattle.sessions.specs.declared.session.Time.TheVariants.{Never}
 use Rattle.tunnel.proofs.AfterStates.{batch_ways}
 use Rattle.tunnel.proofs.Facts.{undamaged_facts}
 use Rattle.tunnel.proofs.Queue.{queue_of_newest}
-use Rattle.tunnel.proofs.TurnedDown.{refused_number, of_timeless, of_turn, of_batch}
+use Rattle.tunnel.proofs.TurnedDown.{refused_counts, of_timeless, of_turn, of_batch}
 use Rattle.tunnel.specs.AfterStates.{with_greatest, with_control, IsExpired}
 use Rattle.tunnel.specs.Answer.{number_of}
 use Rattle.tunnel.specs.Arguments.{bad_batch, bad_jitter}
@@ -31,13 +26,19 @@ use Rattle.tunnel.specs.InitiateHandshake.{restart_handshake, start_handshake}
 use Rattle.tunnel.specs.PollTimeout.{poll_timeout}
 use Rattle.tunnel.specs.RingBuffer.{Ring, queued, oldest}
 use Rattle.tunnel.specs.Settle.{waking_due, repeat_waking, woke, settle}
-use Rattle.tunnel.specs.Tunnel.{gate, timeless_gate, refused, let_through, Called, call_receive, call_timeout, call_settle, call_event, call_deadline}
+use Rattle.tunnel.specs.Tunnel.{timeless_gate, refused, let_through, Called, call_receive, call_timeout, call_settle, call_event, call_deadline}
 use Rattle.tunnel.specs.declared.answer.Answer.TheVariants.{NoAnswer, Done, Polled, Deadline, Woke}
 use Rattle.tunnel.specs.declared.control.Control.{Control}
 use Rattle.tunnel.specs.declared.control.Out.{Out}
 use Rattle.tunnel.specs.declared.handshake.HandshakeState.TheVariants.{InitSent, Expired}
 use Rattle.tunnel.specs.declared.tunnel.Answered.{Answered}
 use Rattle.tunnel.specs.declared.tunnel.Tunnel.{Tunnel}
+use Rattle.std.specs.Prelude.{Err, None, Ok, Result, Option}
+use Rattle.error.specs.declared.Error.{Error}
+use Rattle.sessions.specs.declared.session.Session.{Session}
+use Rattle.sessions.specs.declared.batch.Progress.{Progress}
+use Rattle.error.specs.declared.Error.TheVariants.{InvalidArgument, DamagedState}
+use Rattle.tunnel.specs.declared.event.Event.{Event}
 
 -- an expired control, and one whose initiation awaits its response
 module _ (c : Control) where
@@ -70,37 +71,37 @@ module _ (c : Control) where
   unfolding settle repeat_waking waking_due choose
   settle_expired store jitter now e = rw (expired_test e) refl
 
-  deadline_expired : (last : ℕ) → c.handshake.state ≡ Expired → poll_timeout c last ≡ Never
+  deadline_expired : (last : ℕ) → c.handshake.state ≡ Expired → poll_timeout c last ≡ None
   unfolding poll_timeout choose
   deadline_expired last e = rw (expired_test e) refl
 
 -- the waking of an expired tunnel
 pub timeout_nothing : (t : Tunnel) (store : List ℕ) (jitter now : ℕ) → IsExpired t → number_of (call_timeout t store jitter now).answered.answer ≡ 0
-    → ((call_timeout t store jitter now).answered.answer ≡ NoAnswer)
+    → ((call_timeout t store jitter now).answered.answer ≡ Ok NoAnswer)
     × ((call_timeout t store jitter now).answered.tunnel ≡ with_greatest t now)
     × ((call_timeout t store jitter now).store ≡ store)
 unfolding call_timeout let_through done choose
 timeout_nothing t store jitter now x =
     of_turn t (bad_jitter jitter store) now
     (λ (a : Called). number_of a.answered.answer ≡ 0
-    → (a.answered.answer ≡ NoAnswer) × (a.answered.tunnel ≡ with_greatest t now) × (a.store ≡ store))
+    → (a.answered.answer ≡ Ok NoAnswer) × (a.answered.tunnel ≡ with_greatest t now) × (a.store ≡ store))
     store _
     (λ z e. rw (timeout_expired t.control store jitter now x) (refl, refl, refl))
-    (λ z e. absurd (z (rw (refused_number t (gate t (bad_jitter jitter store) now)) at e)))
+    (λ error z e. absurd (refused_counts t error e))
 
 -- settling it
 pub settle_nothing : (t : Tunnel) (store : List ℕ) (jitter now : ℕ) → IsExpired t → number_of (call_settle t store jitter now).answered.answer ≡ 0
-    → ((call_settle t store jitter now).answered.answer ≡ Woke 0)
+    → ((call_settle t store jitter now).answered.answer ≡ Ok (Woke 0))
     × ((call_settle t store jitter now).answered.tunnel ≡ with_greatest t now)
     × ((call_settle t store jitter now).store ≡ store)
 unfolding call_settle let_through choose
 settle_nothing t store jitter now x =
     of_turn t (bad_jitter jitter store) now
     (λ (a : Called). number_of a.answered.answer ≡ 0
-    → (a.answered.answer ≡ Woke 0) × (a.answered.tunnel ≡ with_greatest t now) × (a.store ≡ store))
+    → (a.answered.answer ≡ Ok (Woke 0)) × (a.answered.tunnel ≡ with_greatest t now) × (a.store ≡ store))
     store _
     (λ z e. rw (settle_expired t.control store jitter now x) (refl, refl, refl))
-    (λ z e. absurd (z (rw (refused_number t (gate t (bad_jitter jitter store) now)) at e)))
+    (λ error z e. absurd (refused_counts t error e))
 
 -- an empty batch
 module _ (c : Control) (store : List ℕ) (index id now : ℕ) where
@@ -108,14 +109,14 @@ module _ (c : Control) (store : List ℕ) (index id now : ℕ) where
   none = commit_decapsulate c store index id now [] [] [] []
 
   empty_out : number_of none.out.answer ≡ 0 → none.out ≡ done c Done
-  unfolding commit_decapsulate case_received accept refuse done choose
+  unfolding commit_decapsulate case_results accept refuse done choose
   empty_out z = go (expired_control c) (receive c.sessions store index id now [] [] [] []).out refl refl ((batch_ways c store index id now [] [] [] []).out.up z)
     where
-      go : (b : Bool) (r : Received) → expired_control c ≡ b → (receive c.sessions store index id now [] [] [] []).out ≡ r → none.out.raises ≡ true
+      go : (b : Bool) (r : Result (Session × Progress) Error) → expired_control c ≡ b → (receive c.sessions store index id now [] [] [] []).out ≡ r → none.out.raises ≡ true
           → none.out ≡ done c Done
       go true r p q u = absurd (true≢false (sym (rw p at u)))
-      go false (Rejected n) p q u = absurd (true≢false (sym (rw (p, q) at u)))
-      go false (Judged x y) p q u = let l = (empty_batch_law c.sessions store index id now).answer x y q in rw (p, q, l.1, l.0) refl
+      go false (Err n) p q u = absurd (true≢false (sym (rw (p, q) at u)))
+      go false (Ok (x, y)) p q u = let l = (empty_batch_law c.sessions store index id now).answer x y q in rw (p, q, l.1, l.0) refl
 
   empty_store : none.store ≡ store
   unfolding commit_decapsulate
@@ -145,43 +146,43 @@ empty_nothing t store index id now =
       empty_list t.control store index id now,
       empty_skips t.control store index id now,
     ))
-    (λ z e. absurd (z (rw (refused_number t (gate t (bad_batch store [] [] [] []) now)) at e)))
+    (λ error z e. absurd (refused_counts t error e))
 
 -- the deadline of an expired tunnel
-pub deadline_nothing : (t : Tunnel) → IsExpired t → number_of (call_deadline t).answer ≡ 0 → (call_deadline t).answer ≡ Deadline Never
+pub deadline_nothing : (t : Tunnel) → IsExpired t → number_of (call_deadline t).answer ≡ 0 → (call_deadline t).answer ≡ Ok (Deadline None)
 unfolding call_deadline let_through
 deadline_nothing t x =
-    of_timeless t false (λ (a : Answered). number_of a.answer ≡ 0 → a.answer ≡ Deadline Never) _
-    (λ z e. ap Deadline (deadline_expired t.control t.last_update x))
-    (λ z e. absurd (z (rw (refused_number t (timeless_gate t false)) at e)))
+    of_timeless t false (λ (a : Answered). number_of a.answer ≡ 0 → a.answer ≡ Ok (Deadline None)) _
+    (λ z e. ap (λ (time : Option ℕ). Ok (Deadline time)) (deadline_expired t.control t.last_update x))
+    (λ error z e. absurd (refused_counts t error e))
 
 -- the ring of a tunnel with sixteen places that the check lets through
-timeless_whole : (whole : Bool) → ◌≡◌ {A = ℕ} (choose false 2 (choose whole 0 14)) 0 → whole ≡ true
+timeless_whole : (whole : Bool) → choose {A = Result Unit Error} false (Err InvalidArgument) (choose whole (Ok tt) (Err DamagedState)) ≡ Ok tt → whole ≡ true
 unfolding choose
 timeless_whole true e = refl
-timeless_whole false e = absurd (omega arith)
+timeless_whole false e = absurd (cc)
 
 module _ (t : Tunnel) (long : length t.control.events.slots ≡ 16) where
-  its_ring : timeless_gate t false ≡ 0 → Ring t.control.events
+  its_ring : timeless_gate t false ≡ Ok tt → Ring t.control.events
   unfolding timeless_gate
   its_ring z = record { places = long; within = (undamaged_facts t (timeless_whole (undamaged t) z)).control.events.ring }
 
   -- what the event call answers and takes
-  pub event_answer : number_of (call_event t).answer ≡ 0 → (call_event t).answer ≡ Polled (oldest (queued t.control.events))
+  pub event_answer : number_of (call_event t).answer ≡ 0 → (call_event t).answer ≡ Ok (Polled (oldest (queued t.control.events)))
   unfolding call_event let_through poll_event
   event_answer =
-      of_timeless t false (λ (a : Answered). number_of a.answer ≡ 0 → a.answer ≡ Polled (oldest (queued t.control.events))) _
-      (λ z e. ap Polled (queue_of_newest.answered t.control.events (its_ring z)))
-      (λ z e. absurd (z (rw (refused_number t (timeless_gate t false)) at e)))
+      of_timeless t false (λ (a : Answered). number_of a.answer ≡ 0 → a.answer ≡ Ok (Polled (oldest (queued t.control.events)))) _
+      (λ z e. ap (λ (event : Option Event). Ok (Polled event)) (queue_of_newest.answered t.control.events (its_ring z)))
+      (λ error z e. absurd (refused_counts t error e))
 
   pub event_queue : number_of (call_event t).answer ≡ 0 → queued (call_event t).tunnel.control.events ≡ drop 1 (queued t.control.events)
   unfolding call_event let_through poll_event
   event_queue =
       of_timeless t false (λ (a : Answered). number_of a.answer ≡ 0 → queued a.tunnel.control.events ≡ drop 1 (queued t.control.events)) _
       (λ z e. queue_of_newest.left t.control.events (its_ring z))
-      (λ z e. absurd (z (rw (refused_number t (timeless_gate t false)) at e)))
+      (λ error z e. absurd (refused_counts t error e))
 
 pub event_rest : (t : Tunnel) → (call_event t).tunnel ≡ with_control t (with_events t.control (call_event t).tunnel.control.events)
 unfolding call_event let_through poll_event refused choose
 event_rest t =
-    of_timeless t false (λ (a : Answered). a.tunnel ≡ with_control t (with_events t.control a.tunnel.control.events)) _ (λ z. refl) (λ z. refl)
+    of_timeless t false (λ (a : Answered). a.tunnel ≡ with_control t (with_events t.control a.tunnel.control.events)) _ (λ z. refl) (λ error z. refl)

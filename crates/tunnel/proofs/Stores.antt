@@ -1,11 +1,10 @@
--- Every operation and every call hands a store of 1,024 words back with so many.
+-- Some operation and every call hands a store of 1,024 words back with so many.
 -- Assumes nothing.
 use mathlib.Core.Path.{◌≡◌}
 use mathlib.Core.List.{List}
 use Prim.Native.Nat.{ℕ}
 use lib.ListN.{length}
-use Rattle.tunnel.specs.Cases.{known_completed}
-use Rattle.base.proofs.Choice.{of_choice}
+use Rattle.base.proofs.Choice.{of_choice, of_result, known_results}
 use Rattle.tunnel.specs.Control.{Turn}
 use Rattle.tunnel.specs.HandleHandshake.{respond, handle_handshake_initiation, handle_handshake_response}
 use Rattle.tunnel.specs.Decapsulate.{commit_decapsulate}
@@ -19,6 +18,8 @@ use mathlib.Core.Bool.{Bool}
 use Rattle.tunnel.specs.Tunnel.{kept}
 use Rattle.tunnel.specs.declared.tunnel.Tunnel.{Tunnel}
 use Rattle.sessions.proofs.Laws.{whole_law}
+use Rattle.std.specs.Prelude.{Result}
+use Rattle.error.specs.declared.Error.{Error}
 
 -- a store of 1,024 words
 abbrev pub Whole : List ℕ → Type 0
@@ -31,18 +32,18 @@ module _ (c : Control) (store : List ℕ) (l : Whole store) where
   batch_store index id now counters kinds verdicts skips =
       of_choice (λ (y : Batched Out). Whole y.store) _ _ _ l ((whole_law c.sessions store l).batch index id now counters kinds verdicts skips)
 
-  pub response_store : (receiver peer outcome now : ℕ) → Whole (handle_handshake_response c store receiver peer outcome now).store
+  pub response_store : (receiver peer : ℕ) (outcome : Result Unit Error) (now : ℕ) → Whole (handle_handshake_response c store receiver peer outcome now).store
   unfolding handle_handshake_response
   response_store receiver peer outcome now =
       of_choice (λ (y : Turn). Whole y.store) _ _ _ l
-      (known_completed (λ (y : Turn). Whole y.store) _ _ _ (λ n. l) (λ h s p. (whole_law c.sessions store l).insertion s))
+      (known_results (λ (y : Turn). Whole y.store) _ _ _ (λ n. l) (λ h s p. (whole_law c.sessions store l).insertion s))
 
-  respond_store : (local peer outcome now : ℕ) → Whole (respond c store local peer outcome now).store
+  respond_store : (local peer : ℕ) (outcome : Result Unit Error) (now : ℕ) → Whole (respond c store local peer outcome now).store
   unfolding respond
   respond_store local peer outcome now =
-      known_completed (λ (y : Turn). Whole y.store) _ _ _ (λ n. l) (λ h s p. (whole_law c.sessions store l).insertion s)
+      known_results (λ (y : Turn). Whole y.store) _ _ _ (λ n. l) (λ h s p. (whole_law c.sessions store l).insertion s)
 
-pub initiation_store_lem : (c : Control) (store : List ℕ) (peer outcome now : ℕ) → Whole store → Whole (handle_handshake_initiation c store peer outcome now).store
+pub initiation_store_lem : (c : Control) (store : List ℕ) (peer : ℕ) (outcome : Result Unit Error) (now : ℕ) → Whole store → Whole (handle_handshake_initiation c store peer outcome now).store
 unfolding handle_handshake_initiation
 initiation_store_lem c store peer outcome now l = of_choice (λ (y : Turn). Whole y.store) _ _ _ l (respond_store _ store l _ peer outcome now)
 
@@ -75,4 +76,4 @@ settle_store c store l jitter now =
 -- what a call leaves in place of the store that came
 pub kept_whole : (t : Tunnel) (bad : Bool) (now : ℕ) (came left : List ℕ) → Whole came → Whole left → Whole (kept t bad now came left)
 unfolding kept
-kept_whole t bad now came left l m = of_choice Whole _ _ _ m l
+kept_whole t bad now came left l m = of_result Whole _ _ _ (λ error. l) (λ passed. m)

@@ -1,14 +1,16 @@
 -- The frames of the calls by cases: what a call leaves where a check turns it down, where its operation does, and where neither does.
 -- Assumes nothing.
-use mathlib.Core.Path.{◌≡◌, refl}
+use mathlib.Core.Path.{◌≡◌, refl, ap}
 use mathlib.Core.Bool.{Bool, true, false}
 use mathlib.Core.List.{List}
 use Prim.Native.Nat.{ℕ, ◌≤◌}
 use native.Mathlib.Omega.{arith}
-use lib.Dec.{ltb, eqb}
-use borrow.Author.Tests.{eqb-true, eqb-false}
-use Rattle.base.proofs.Choice.{known_choice}
-use Rattle.base.specs.Choice.{choose}
+use lib.Dec.{ltb}
+use Rattle.base.specs.Choice.{choose, case_result}
+use Rattle.error.specs.Error.{error_number}
+use Rattle.error.specs.declared.Error.TheVariants.{InvalidTime, InvalidArgument, WrongKey, ReplayedHandshakeInitiation, InitiationPredatesTunnel, WrongIndex, InvalidAeadTag, UnexpectedPacket, InvalidCounter, DuplicateCounter, ConnectionExpired, NoCurrentSession, ClockWentBack, DamagedState, UnknownType, WrongLength, BrokenTrailer, BrokenRecord, StoreFull, OutsideRights}
+use Rattle.error.specs.declared.Error.{Error}
+use Rattle.std.specs.Prelude.{Result, Ok, Err}
 use Rattle.sessions.specs.Batch.{Batched}
 use Rattle.sessions.specs.Session.{time_limit}
 use Rattle.tunnel.specs.AfterStates.{TurnedDown, with_greatest}
@@ -49,63 +51,97 @@ pub let_through_same : (t : Tunnel) (now : ℕ) (out : Out) → Untouched t.cont
 unfolding let_through choose
 let_through_same t now out u = rw (u.control, u.raises, u.updates) refl
 
--- the number of a check
-tested_beside : (late bad whole back : Bool) (n : ℕ) → choose late 1 (choose bad 2 (choose whole (choose back 13 0) 14)) ≡ n → 3 ≤ n → n ≤ 12 → ⊥
-unfolding choose
-tested_beside true bad whole back n e l m = omega arith
-tested_beside false true whole back n e l m = omega arith
-tested_beside false false true true n e l m = omega arith
-tested_beside false false true false n e l m = omega arith
-tested_beside false false false back n e l m = omega arith
+-- the number of an error is not 0
+pub error_counts : (error : Error) → error_number error ≡ 0 → ⊥
+error_counts InvalidTime e = omega arith
+error_counts InvalidArgument e = omega arith
+error_counts WrongKey e = omega arith
+error_counts ReplayedHandshakeInitiation e = omega arith
+error_counts InitiationPredatesTunnel e = omega arith
+error_counts WrongIndex e = omega arith
+error_counts InvalidAeadTag e = omega arith
+error_counts UnexpectedPacket e = omega arith
+error_counts InvalidCounter e = omega arith
+error_counts DuplicateCounter e = omega arith
+error_counts ConnectionExpired e = omega arith
+error_counts NoCurrentSession e = omega arith
+error_counts ClockWentBack e = omega arith
+error_counts DamagedState e = omega arith
+error_counts UnknownType e = omega arith
+error_counts WrongLength e = omega arith
+error_counts BrokenTrailer e = omega arith
+error_counts BrokenRecord e = omega arith
+error_counts StoreFull e = omega arith
+error_counts OutsideRights e = omega arith
 
-pub refused_number : (t : Tunnel) (n : ℕ) → number_of (refused t n).answer ≡ n
+-- the number of a check
+tested_beside : (late bad whole back : Bool) (error : Error)
+    → choose {A = Result Unit Error} late (Err InvalidTime)
+    (choose bad (Err InvalidArgument) (choose whole (choose back (Err ClockWentBack) (Ok tt)) (Err DamagedState)))
+    ≡ Err error → 3 ≤ error_number error → error_number error ≤ 12 → ⊥
+unfolding choose
+tested_beside true bad whole back error e l m = let x : InvalidTime ≡ error = cc in let y = ap error_number x in omega arith
+tested_beside false true whole back error e l m = let x : InvalidArgument ≡ error = cc in let y = ap error_number x in omega arith
+tested_beside false false true true error e l m = let x : ClockWentBack ≡ error = cc in let y = ap error_number x in omega arith
+tested_beside false false true false error e l m = absurd (cc)
+tested_beside false false false back error e l m = let x : DamagedState ≡ error = cc in let y = ap error_number x in omega arith
+
+-- a call that a check turns down has its number
+pub refused_counts : (t : Tunnel) (error : Error) → number_of (refused t error).answer ≡ 0 → ⊥
 unfolding refused number_of
-refused_number t n = refl
+refused_counts t error e = error_counts error e
 
 -- a call at a time
 module _ (t : Tunnel) (bad : Bool) (now : ℕ) where
-  pub gate_beside : 3 ≤ gate t bad now → gate t bad now ≤ 12 → ⊥
+  pub gate_beside : (error : Error) → gate t bad now ≡ Err error → 3 ≤ error_number error → error_number error ≤ 12 → ⊥
   unfolding gate
-  gate_beside = tested_beside (ltb time_limit now) bad (undamaged t) (ltb now t.greatest) _ refl
+  gate_beside error = tested_beside (ltb time_limit now) bad (undamaged t) (ltb now t.greatest) error
 
   abbrev Passed : Type 0
-  Passed = gate t bad now ≡ 0
+  Passed = gate t bad now ≡ Ok tt
 
-  pub of_timed : (P : Answered → Type 0) (out : Out) → (Passed → P (let_through t now out)) → ((Passed → ⊥) → P (refused t (gate t bad now)))
+  abbrev Fails : Error → Type 0
+  Fails error = gate t bad now ≡ Err error
+
+  pub of_timed : (P : Answered → Type 0) (out : Out) → (Passed → P (let_through t now out)) → ((error : Error) → Fails error → P (refused t error))
       → P (timed t bad now out)
-  unfolding timed
-  of_timed P out p q = known_choice P (eqb (gate t bad now) 0) _ _ (λ e. p (eqb-true _ 0 e)) (λ e. q (eqb-false _ 0 e))
+  unfolding timed case_result
+  of_timed P out p q = go (gate t bad now) refl
+    where
+      go : (r : Result Unit Error) → gate t bad now ≡ r → P (timed t bad now out)
+      go (Ok passed) e = rw e (p e)
+      go (Err error) e = rw e (q error e)
 
   pub of_turn : (P : Called → Type 0) (store : List ℕ) (turn : Turn) → (Passed → P (record { answered = let_through t now turn.out; store = turn.store }))
-      → ((Passed → ⊥) → P (record { answered = refused t (gate t bad now); store = store })) → P (timed_turn t bad now store turn)
-  unfolding timed_turn timed kept choose
-  of_turn P store turn p q = go (eqb (gate t bad now) 0) refl
+      → ((error : Error) → Fails error → P (record { answered = refused t error; store = store })) → P (timed_turn t bad now store turn)
+  unfolding timed_turn timed kept case_result
+  of_turn P store turn p q = go (gate t bad now) refl
     where
-      go : (b : Bool) → eqb (gate t bad now) 0 ≡ b → P (timed_turn t bad now store turn)
-      go true e = rw e (p (eqb-true _ 0 e))
-      go false e = rw e (q (eqb-false _ 0 e))
+      go : (r : Result Unit Error) → gate t bad now ≡ r → P (timed_turn t bad now store turn)
+      go (Ok passed) e = rw e (p e)
+      go (Err error) e = rw e (q error e)
 
   pub of_batch : (P : Batched Answered → Type 0) (store verdicts skips : List ℕ) (batch : Batched Out)
       → (Passed → P (record { out = let_through t now batch.out; store = batch.store; verdicts = batch.verdicts; skips = batch.skips }))
-      → ((Passed → ⊥) → P (record { out = refused t (gate t bad now); store = store; verdicts = verdicts; skips = skips }))
+      → ((error : Error) → Fails error → P (record { out = refused t error; store = store; verdicts = verdicts; skips = skips }))
       → P (timed_batch t bad now store verdicts skips batch)
-  unfolding timed_batch timed kept choose
-  of_batch P store verdicts skips batch p q = go (eqb (gate t bad now) 0) refl
+  unfolding timed_batch timed kept case_result
+  of_batch P store verdicts skips batch p q = go (gate t bad now) refl
     where
-      go : (b : Bool) → eqb (gate t bad now) 0 ≡ b → P (timed_batch t bad now store verdicts skips batch)
-      go true e = rw e (p (eqb-true _ 0 e))
-      go false e = rw e (q (eqb-false _ 0 e))
+      go : (r : Result Unit Error) → gate t bad now ≡ r → P (timed_batch t bad now store verdicts skips batch)
+      go (Ok passed) e = rw e (p e)
+      go (Err error) e = rw e (q error e)
 
   -- an operation that leaves all as it came
   pub timed_same : (out : Out) → Untouched t.control out → (timed t bad now out).tunnel ≡ t
   unfolding refused
-  timed_same out u = of_timed (λ (a : Answered). a.tunnel ≡ t) out (λ z. let_through_same t now out u) (λ z. refl)
+  timed_same out u = of_timed (λ (a : Answered). a.tunnel ≡ t) out (λ z. let_through_same t now out u) (λ error z. refl)
 
   -- turned down, it leaves all as it came
   pub timed_down : (out : Out) → (Passed → Ways t.control out) → TurnedDown (timed t bad now out).answer → (timed t bad now out).tunnel ≡ t
   unfolding let_through refused
   timed_down out k =
-      of_timed (λ (a : Answered). TurnedDown a.answer → a.tunnel ≡ t) out (λ z d. let_through_same t now out ((k z).down d)) (λ z d. refl)
+      of_timed (λ (a : Answered). TurnedDown a.answer → a.tunnel ≡ t) out (λ z d. let_through_same t now out ((k z).down d)) (λ error z d. refl)
 
   pub turn_down : (store : List ℕ) (turn : Turn) → (Passed → TurnWays t.control store turn)
       → TurnedDown (timed_turn t bad now store turn).answered.answer
@@ -114,7 +150,7 @@ module _ (t : Tunnel) (bad : Bool) (now : ℕ) where
   turn_down store turn k =
       of_turn (λ (a : Called). TurnedDown a.answered.answer → (a.answered.tunnel ≡ t) × (a.store ≡ store)) store turn
       (λ z d. (let_through_same t now turn.out ((k z).out.down d), (k z).words d))
-      (λ z d. (refl, refl))
+      (λ error z d. (refl, refl))
 
   pub batch_down : (store verdicts skips : List ℕ) (batch : Batched Out) → (Passed → BatchWays t.control store verdicts skips batch)
       → TurnedDown (timed_batch t bad now store verdicts skips batch).out.answer
@@ -128,7 +164,7 @@ module _ (t : Tunnel) (bad : Bool) (now : ℕ) where
       (λ (a : Batched Answered).
       TurnedDown a.out.answer → (a.out.tunnel ≡ t) × (a.store ≡ store) × (a.verdicts ≡ verdicts) × (a.skips ≡ skips)) store verdicts skips batch
       (λ z d. (let_through_same t now batch.out ((k z).out.down d), (k z).words d, (k z).list d, (k z).skip_list d))
-      (λ z d. (refl, refl, refl, refl))
+      (λ error z d. (refl, refl, refl, refl))
 
   -- not turned down, it raises the greatest time
   pub timed_up : (out : Out) → (Passed → number_of out.answer ≡ 0 → out.raises ≡ true) → number_of (timed t bad now out).answer ≡ 0
@@ -136,24 +172,28 @@ module _ (t : Tunnel) (bad : Bool) (now : ℕ) where
   unfolding let_through choose
   timed_up out k =
       of_timed (λ (a : Answered). number_of a.answer ≡ 0 → a.tunnel.greatest ≡ now) out (λ z e. rw (k z e) refl)
-      (λ z e. absurd (z (rw (refused_number t (gate t bad now)) at e)))
+      (λ error z e. absurd (refused_counts t error e))
 
   -- an operation that answers nothing and changes nothing
   pub timed_nothing : (out : Out) → out ≡ done t.control NoAnswer → number_of (timed t bad now out).answer ≡ 0
-      → ((timed t bad now out).answer ≡ NoAnswer) × ((timed t bad now out).tunnel ≡ with_greatest t now)
+      → ((timed t bad now out).answer ≡ Ok NoAnswer) × ((timed t bad now out).tunnel ≡ with_greatest t now)
   unfolding let_through choose done
   timed_nothing out k =
-      of_timed (λ (a : Answered). number_of a.answer ≡ 0 → (a.answer ≡ NoAnswer) × (a.tunnel ≡ with_greatest t now)) out
+      of_timed (λ (a : Answered). number_of a.answer ≡ 0 → (a.answer ≡ Ok NoAnswer) × (a.tunnel ≡ with_greatest t now)) out
       (λ z e. (rw k refl, rw k refl))
-      (λ z e. absurd (z (rw (refused_number t (gate t bad now)) at e)))
+      (λ error z e. absurd (refused_counts t error e))
 
 -- a call without a time
 module _ (t : Tunnel) (bad : Bool) where
-  pub of_timeless : (P : Answered → Type 0) (out : Out) → (timeless_gate t bad ≡ 0 → P (let_through t 0 out))
-      → ((timeless_gate t bad ≡ 0 → ⊥) → P (refused t (timeless_gate t bad))) → P (timeless t bad out)
-  unfolding timeless
-  of_timeless P out p q = known_choice P (eqb (timeless_gate t bad) 0) _ _ (λ e. p (eqb-true _ 0 e)) (λ e. q (eqb-false _ 0 e))
+  pub of_timeless : (P : Answered → Type 0) (out : Out) → (timeless_gate t bad ≡ Ok tt → P (let_through t 0 out))
+      → ((error : Error) → timeless_gate t bad ≡ Err error → P (refused t error)) → P (timeless t bad out)
+  unfolding timeless case_result
+  of_timeless P out p q = go (timeless_gate t bad) refl
+    where
+      go : (r : Result Unit Error) → timeless_gate t bad ≡ r → P (timeless t bad out)
+      go (Ok passed) e = rw e (p e)
+      go (Err error) e = rw e (q error e)
 
   pub timeless_same : (out : Out) → Untouched t.control out → (timeless t bad out).tunnel ≡ t
   unfolding refused
-  timeless_same out u = of_timeless (λ (a : Answered). a.tunnel ≡ t) out (λ z. let_through_same t 0 out u) (λ z. refl)
+  timeless_same out u = of_timeless (λ (a : Answered). a.tunnel ≡ t) out (λ z. let_through_same t 0 out u) (λ error z. refl)

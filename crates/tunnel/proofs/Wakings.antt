@@ -4,9 +4,8 @@ use mathlib.Core.Path.{◌≡◌}
 use mathlib.Core.Bool.{Bool, false}
 use mathlib.Core.List.{List}
 use Prim.Native.Nat.{ℕ, zero, suc}
-use Rattle.base.proofs.Choice.{of_choice}
+use Rattle.base.proofs.Choice.{of_choice, of_option}
 use Rattle.base.specs.Choice.{choose}
-use Rattle.sessions.specs.Cases.{of_found, of_time}
 use Rattle.sessions.specs.Session.{due_by}
 use Rattle.tunnel.specs.Control.{with_handshake, with_sessions}
 use Rattle.tunnel.specs.declared.control.Control.{Control}
@@ -47,21 +46,21 @@ module _ (P : Control → List ℕ → Type 0) (jitter now : ℕ) (k : WakingKee
   unfolding maintain_connection
   of_maintained c store required w =
       let v : P (with_handshake c (expire_cookie c.handshake now)) store = k.drops c store w in
-      of_choice Holds _ _ _ (k.ends _ store v) (of_time Holds _ _ _ (of_idle _ store required v) (λ at. of_progress _ store required v))
+      of_choice Holds _ _ _ (k.ends _ store v) (of_option Holds _ _ _ (of_idle _ store required v) (λ at. of_progress _ store required v))
 
   of_expired : (c : Control) (store : List ℕ) → P c store → Holds (expire_sessions c store jitter now)
   unfolding expire_sessions
   of_expired c store w =
       let v : P (with_sessions c (expire c.sessions store now).expired.sessions) (expire c.sessions store now).store = k.expires c store w in
-      of_found Holds _ _ _ (of_maintained _ _ false v) (λ s. of_choice Holds _ _ _ (k.ends _ _ v) (of_maintained _ _ _ v))
+      of_option Holds _ _ _ (of_maintained _ _ false v) (λ s. of_choice Holds _ _ _ (k.ends _ _ v) (of_maintained _ _ _ v))
 
   pub of_unsent : (c : Control) (store : List ℕ) → P c store → due_by (scheduled_handshake c) now ≡ false → Holds (handle_due c store jitter now)
   unfolding handle_due choose
-  of_unsent c store w n = rw n (of_time Holds _ _ _ (of_expired c store w) (λ at. w))
+  of_unsent c store w n = rw n (of_option Holds _ _ _ (of_expired c store w) (λ at. w))
 
   pub of_wake : (c : Control) (store : List ℕ) → P c store → P (send_scheduled c now) store → Holds (handle_due c store jitter now)
   unfolding handle_due
-  of_wake c store w sent = of_choice Holds _ _ _ sent (of_time Holds _ _ _ (of_expired c store w) (λ at. w))
+  of_wake c store w sent = of_choice Holds _ _ _ sent (of_option Holds _ _ _ (of_expired c store w) (λ at. w))
 
 -- the repetition of wakings
 module _ (P : Control → List ℕ → Type 0) (jitter now : ℕ)

@@ -1,17 +1,16 @@
 -- What a call leaves: all as it came where it is turned down, save two calls; its own time as the greatest where it is not; and which calls
 -- change nothing else or nothing at all; what the event call takes; and that an expired tunnel has no current session.
-use Rattle.std.specs.Prelude.{◌≡◌, true, List, [], ◌⊎◌, ℕ, drop}
+use Rattle.std.specs.Prelude.{◌≡◌, true, List, [], ◌⊎◌, ℕ, drop, None, Some, Result, Ok, unwrap_or}
 use Rattle.base.specs.Lists.{zeros}
+use Rattle.error.specs.declared.Error.{Error}
 use Rattle.sessions.specs.Laws.{MaySend}
 use Rattle.sessions.specs.Session.{with_sent_data}
 use Rattle.sessions.specs.Sessions.{with_last_index, next_index, current_of, put}
 use Rattle.sessions.specs.declared.session.Session.{Session}
-use Rattle.sessions.specs.declared.session.Time.TheVariants.{Never, At}
-use Rattle.sessions.specs.declared.sessions.Found.TheVariants.{Nothing, Got}
 use Rattle.tunnel.specs.Answer.{number_of}
 use Rattle.tunnel.specs.Control.{with_sessions, with_timers, with_events}
 use Rattle.tunnel.specs.RingBuffer.{queued, oldest}
-use Rattle.tunnel.specs.Timers.{with_sent, with_data_sent, with_received_without_reply, with_sent_without_reply, time_or}
+use Rattle.tunnel.specs.Timers.{with_sent, with_data_sent, with_received_without_reply, with_sent_without_reply}
 use Rattle.tunnel.specs.Tunnel.{call_new, call_start, call_restart, call_send, call_receive, call_look, call_initiation, call_response, call_cookie, call_timeout, call_settle, call_event, call_deadline, call_missing}
 use Rattle.tunnel.specs.declared.answer.Answer.TheVariants.{NoAnswer, Polled, Deadline, Woke}
 use Rattle.tunnel.specs.declared.answer.Answer.{Answer}
@@ -21,7 +20,7 @@ use Rattle.tunnel.specs.declared.timers.Timers.{Timers}
 use Rattle.tunnel.specs.declared.tunnel.Tunnel.{Tunnel}
 
 -- turned down: its number is not 0
-abbrev pub TurnedDown : Answer → Type 0
+abbrev pub TurnedDown : Result Answer Error → Type 0
 TurnedDown answer = number_of answer ≡ 0 → ⊥
 
 -- a tunnel with another greatest time
@@ -39,7 +38,7 @@ with_index_used t index = with_control t (with_sessions t.control (with_last_ind
 -- both send timers ticked, with what a tick of each does to the times without a reply
 abbrev pub with_send_ticked : Timers → ℕ → Timers
 with_send_ticked t now =
-    with_sent_without_reply (with_received_without_reply (with_data_sent (with_sent t now) now) Never) (At (time_or t.first_data_sent_without_reply now))
+    with_sent_without_reply (with_received_without_reply (with_data_sent (with_sent t now) now) None) (Some (unwrap_or t.first_data_sent_without_reply now))
 
 -- a tunnel with this session marked as having sent data, its counter as before, with both send timers ticked and the greatest time raised
 abbrev pub with_data_marked : Tunnel → Session → ℕ → Tunnel
@@ -52,7 +51,7 @@ with_data_marked t session now =
 -- a send by 12 that found a session: the current one, which may send
 pub record FoundTooFew (t : Tunnel) (count now : ℕ) (session : Session) : Type 0 where
   pub number : number_of (call_send t count now).answer ≡ 12
-  pub current : current_of t.control.sessions ≡ Got session
+  pub current : current_of t.control.sessions ≡ Some session
   pub may : MaySend session now
 
 -- the numbers by which an outcome turns down an incoming initiation
@@ -97,7 +96,7 @@ pub record AfterStates (t : Tunnel) (store : List ℕ) : Type 0 where
       → ((call_new store index keepalive now).answered.tunnel ≡ (call_new (zeros 1024) 0 0 0).answered.tunnel)
       × ((call_new store index keepalive now).store ≡ store)
 
--- Every call with a time that is not turned down, save the early look, leaves the greatest time at its own.
+-- Some call with a time that is not turned down, save the early look, leaves the greatest time at its own.
 pub record GreatestLaw (t : Tunnel) (store : List ℕ) : Type 0 where
   pub new : (index keepalive now : ℕ) → number_of (call_new store index keepalive now).answered.answer ≡ 0
       → (call_new store index keepalive now).answered.tunnel.greatest ≡ now
@@ -131,35 +130,35 @@ pub record StillLaw (t : Tunnel) (store : List ℕ) : Type 0 where
       × ((call_receive t store index id now [] [] [] []).skips ≡ [])
   -- waking, starting or restarting an expired tunnel, which answer nothing
   pub timeout : (jitter now : ℕ) → IsExpired t → number_of (call_timeout t store jitter now).answered.answer ≡ 0
-      → ((call_timeout t store jitter now).answered.answer ≡ NoAnswer)
+      → ((call_timeout t store jitter now).answered.answer ≡ Ok NoAnswer)
       × ((call_timeout t store jitter now).answered.tunnel ≡ with_greatest t now)
       × ((call_timeout t store jitter now).store ≡ store)
   pub start : (now : ℕ) → IsExpired t → number_of (call_start t now).answer ≡ 0
-      → ((call_start t now).answer ≡ NoAnswer) × ((call_start t now).tunnel ≡ with_greatest t now)
+      → ((call_start t now).answer ≡ Ok NoAnswer) × ((call_start t now).tunnel ≡ with_greatest t now)
   pub restart : (now : ℕ) → IsExpired t → number_of (call_restart t now).answer ≡ 0
-      → ((call_restart t now).answer ≡ NoAnswer) × ((call_restart t now).tunnel ≡ with_greatest t now)
+      → ((call_restart t now).answer ≡ Ok NoAnswer) × ((call_restart t now).tunnel ≡ with_greatest t now)
   -- settling an expired tunnel, which makes no waking
   pub settle : (jitter now : ℕ) → IsExpired t → number_of (call_settle t store jitter now).answered.answer ≡ 0
-      → ((call_settle t store jitter now).answered.answer ≡ Woke 0)
+      → ((call_settle t store jitter now).answered.answer ≡ Ok (Woke 0))
       × ((call_settle t store jitter now).answered.tunnel ≡ with_greatest t now)
       × ((call_settle t store jitter now).store ≡ store)
   -- starting while an initiation awaits its response, which answers nothing
   pub again : (now local sent : ℕ) → t.control.handshake.state ≡ InitSent local sent → number_of (call_start t now).answer ≡ 0
-      → ((call_start t now).answer ≡ NoAnswer) × ((call_start t now).tunnel ≡ with_greatest t now)
+      → ((call_start t now).answer ≡ Ok NoAnswer) × ((call_start t now).tunnel ≡ with_greatest t now)
   -- the deadline of an expired tunnel is none
-  pub deadline : IsExpired t → number_of (call_deadline t).answer ≡ 0 → (call_deadline t).answer ≡ Deadline Never
+  pub deadline : IsExpired t → number_of (call_deadline t).answer ≡ 0 → (call_deadline t).answer ≡ Ok (Deadline None)
 
 -- The event call answers the oldest of the queued events and takes it off: the others stay, in order, and nothing else changes.
 pub record EventLaw (t : Tunnel) : Type 0 where
-  pub answer : number_of (call_event t).answer ≡ 0 → (call_event t).answer ≡ Polled (oldest (queued t.control.events))
+  pub answer : number_of (call_event t).answer ≡ 0 → (call_event t).answer ≡ Ok (Polled (oldest (queued t.control.events)))
   pub queue : number_of (call_event t).answer ≡ 0 → queued (call_event t).tunnel.control.events ≡ drop 1 (queued t.control.events)
   pub rest : (call_event t).tunnel ≡ with_control t (with_events t.control (call_event t).tunnel.control.events)
 
 -- an expired tunnel has no current session
 abbrev pub NoneCurrent : Tunnel → Type 0
-NoneCurrent t = IsExpired t → current_of t.control.sessions ≡ Nothing
+NoneCurrent t = IsExpired t → current_of t.control.sessions ≡ None
 
--- Every call that is handed a tunnel which, if expired, has no current session hands back such a one, and so does a creation.
+-- Some call that is handed a tunnel which, if expired, has no current session hands back such a one, and so does a creation.
 pub record ExpiredLaw (t : Tunnel) (store : List ℕ) : Type 0 where
   pub new : (index keepalive now : ℕ) → NoneCurrent (call_new store index keepalive now).answered.tunnel
   pub start : (now : ℕ) → NoneCurrent (call_start t now).tunnel

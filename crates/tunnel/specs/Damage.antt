@@ -1,25 +1,22 @@
 -- Number 14: whether it lets a stored state through. Empty slots, unused places of the ring and the words of the store are not looked at.
-use Rattle.std.specs.Prelude.{Bool, true, false, List, [], ◌∷◌, ℕ, ◌+◌, leb, eqb}
-use Rattle.base.specs.Choice.{choose, ◌and◌}
-use Rattle.tunnel.specs.Cases.{case_event, case_state, case_interval}
+use Rattle.std.specs.Prelude.{Bool, true, false, List, [], ◌∷◌, ℕ, ◌+◌, leb, eqb, Option}
+use Rattle.base.specs.Choice.{choose, ◌and◌, case_option}
+use Rattle.tunnel.specs.Cases.{case_event, case_state}
 use Rattle.tunnel.specs.RingBuffer.{queued}
 use Rattle.tunnel.specs.Timers.{max_jitter, greatest_interval}
 use Rattle.tunnel.specs.declared.event.Event.{Event}
 use Rattle.tunnel.specs.declared.handshake.Handshake.{Handshake}
 use Rattle.tunnel.specs.declared.handshake.HandshakeState.{HandshakeState}
 use Rattle.tunnel.specs.declared.ring_buffer.RingBuffer.{RingBuffer}
-use Rattle.tunnel.specs.declared.timers.Interval.{Interval}
 use Rattle.tunnel.specs.declared.timers.Timers.{Timers}
-use Rattle.sessions.specs.Cases.{case_time}
 use Rattle.sessions.specs.Session.{time_limit}
-use Rattle.sessions.specs.declared.session.Time.{Time}
 use Rattle.tunnel.specs.declared.control.Control.{Control}
 use Rattle.sessions.specs.Damage.{sessions_hold}
 use Rattle.tunnel.specs.declared.tunnel.Tunnel.{Tunnel}
 
 -- a time, if present, is at most this
-unfoldable pub time_holds : Time → ℕ → Bool
-time_holds time most = case_time time true (λ at. leb at most)
+unfoldable pub time_holds : Option ℕ → ℕ → Bool
+time_holds time most = case_option time true (λ at. leb at most)
 
 -- an initiation's time is at most the greatest time
 unfoldable pub state_holds : HandshakeState → ℕ → Bool
@@ -30,20 +27,17 @@ unfoldable pub in_range : ℕ → Bool
 in_range seconds = choose (eqb seconds 0) false (leb seconds greatest_interval)
 
 -- the keepalive is absent or in range
-unfoldable pub interval_holds : Interval → Bool
-interval_holds interval = case_interval interval true in_range
-
--- two times are at most this
-unfoldable pub both_at_most : (a b most : ℕ) → Bool
-both_at_most a b most = leb a most and leb b most
+unfoldable pub interval_holds : Option ℕ → Bool
+interval_holds interval = case_option interval true in_range
 
 -- both times of an established event are at most the greatest time
-unfoldable pub event_holds : Event → ℕ → Bool
+unfoldable pub event_holds : Option Event → ℕ → Bool
 event_holds event greatest =
-    case_event event true (λ local. true) (λ peer counter. true) (λ started confirmed. both_at_most started confirmed greatest) true
+    case_option event true
+    (λ held. case_event held (λ local. true) (λ peer counter. true) (λ started confirmed. leb started greatest and leb confirmed greatest) true)
 
 -- every event of a list holds
-unfoldable pub queue_holds : List Event → ℕ → Bool
+unfoldable pub queue_holds : List (Option Event) → ℕ → Bool
 queue_holds [] greatest = true
 queue_holds (event ∷ events) greatest = event_holds event greatest and queue_holds events greatest
 

@@ -1,5 +1,5 @@
 -- What number 14 lets through, as facts: `Undamaged t` holds just where `undamaged t` is true, and `ControlWithin c most` where `control_holds c most` is.
-use Rattle.std.specs.Prelude.{◌≡◌, true, List, [], ◌∷◌, ℕ, ◌-◌, ◌^◌, ◌≤◌, ◌<◌}
+use Rattle.std.specs.Prelude.{◌≡◌, true, List, [], ◌∷◌, ℕ, ◌-◌, ◌^◌, ◌≤◌, ◌<◌, Option, Some}
 use Rattle.tunnel.specs.declared.control.Control.{Control}
 use Rattle.tunnel.specs.Handshake.{HandshakeWithin}
 use Rattle.tunnel.specs.RingBuffer.{RingWithin, queued}
@@ -10,8 +10,6 @@ use Rattle.tunnel.specs.declared.ring_buffer.RingBuffer.{RingBuffer}
 use Rattle.sessions.specs.Index.{slot_of}
 use Rattle.sessions.specs.Sessions.{slot_at}
 use Rattle.sessions.specs.declared.session.Session.{Session}
-use Rattle.sessions.specs.declared.sessions.Found.TheVariants.{Got}
-use Rattle.sessions.specs.declared.sessions.Found.{Found}
 use Rattle.sessions.specs.declared.sessions.Sessions.{Sessions}
 use Rattle.tunnel.specs.Damage.{undamaged}
 use Rattle.tunnel.specs.declared.tunnel.Tunnel.{Tunnel}
@@ -31,18 +29,18 @@ pub record SessionsWithin (s : Sessions) (most : ℕ) : Type 0 where
   pub slots : (k : ℕ) → k < 8 → (slot_at s k).filled ≡ true → SlotWithin (slot_at s k) k most
 
 -- a session that was found was established at this time at most
-pub record FoundWithin (found : Found) (most : ℕ) : Type 0 where
-  pub within : (session : Session) → found ≡ Got session → session.established_at ≤ most
+pub record FoundWithin (found : Option Session) (most : ℕ) : Type 0 where
+  pub within : (session : Session) → found ≡ Some session → session.established_at ≤ most
 
 -- both times of an event, if it is an established one, are at most this
-pub record EventWithin (event : Event) (most : ℕ) : Type 0 where
-  pub started : (a b : ℕ) → event ≡ Established a b → a ≤ most
-  pub confirmed : (a b : ℕ) → event ≡ Established a b → b ≤ most
+pub record EventWithin (event : Option Event) (most : ℕ) : Type 0 where
+  pub started : (a b : ℕ) → event ≡ Some (Established a b) → a ≤ most
+  pub confirmed : (a b : ℕ) → event ≡ Some (Established a b) → b ≤ most
 
 -- every event of a list
-pub data EventsWithin (most : ℕ) : List Event → Type 0 where
+pub data EventsWithin (most : ℕ) : List (Option Event) → Type 0 where
   none : EventsWithin most []
-  more : {event : Event} {events : List Event} → EventWithin event most → EventsWithin most events → EventsWithin most (event ∷ events)
+  more : {event : Option Event} {events : List (Option Event)} → EventWithin event most → EventsWithin most events → EventsWithin most (event ∷ events)
 
 -- the ring's head and length are in range, and so is every queued event
 pub record QueueWithin (r : RingBuffer) (most : ℕ) : Type 0 where

@@ -1,10 +1,9 @@
 -- The waking, after `handle_timeout` of src/tunnel.rs, in the Rust's order of tests, save that a handshake already required skips the four tests of rekeying.
-use Rattle.std.specs.Prelude.{Bool, true, false, List, ℕ, ◌+◌}
-use Rattle.base.specs.Choice.{choose}
+use Rattle.std.specs.Prelude.{Bool, true, false, List, ℕ, ◌+◌, Ok}
+use Rattle.base.specs.Choice.{choose, case_option, case_pair}
 use Rattle.tunnel.specs.Control.{Turn, with_handshake, with_sessions, with_timers, out_of, done, expired_control, queueing}
 use Rattle.tunnel.specs.PollTimeout.{scheduled_handshake, reject_deadline, attempt_deadline, handshake_rekey_timeout, rekey_on_send, rekey_on_messages, rekey_on_receive, response_deadline, passive_deadline, persistent_deadline}
 use Rattle.tunnel.specs.InitiateHandshake.{initiate}
-use Rattle.tunnel.specs.Cases.{case_datagram}
 use Rattle.tunnel.specs.Encapsulate.{encrypt_keepalive}
 use Rattle.tunnel.specs.declared.answer.Answer.TheVariants.{NoAnswer}
 use Rattle.tunnel.specs.declared.control.Control.{Control}
@@ -12,7 +11,7 @@ use Rattle.tunnel.specs.Handshake.{is_in_progress, set_expired, expire_cookie}
 use Rattle.tunnel.specs.Timers.{clear_timers, schedule_handshake, cancel_scheduled_handshake, consume_passive_keepalive, tick_persistent_keepalive}
 use Rattle.tunnel.specs.declared.event.Event.TheVariants.{SendHandshakeInitiation, SendKeepalive, ConnectionExpired}
 use Rattle.tunnel.specs.declared.timers.Timers.{Timers}
-use Rattle.sessions.specs.Cases.{case_time, case_role, case_found}
+use Rattle.sessions.specs.Cases.{case_role}
 use Rattle.sessions.specs.Session.{due_by}
 use Rattle.sessions.specs.Sessions.{Expiring, clear, expire, is_empty}
 use Rattle.sessions.specs.declared.session.Session.{Session}
@@ -44,7 +43,7 @@ scheduling c jitter now = with_timers c (schedule_handshake c.timers (now + jitt
 -- a keepalive queued, if there is a session for it
 unfoldable pub queue_keepalive : Control → ℕ → Control
 queue_keepalive c now =
-    case_datagram (encrypt_keepalive c now).keepalive (encrypt_keepalive c now).control
+    case_pair (encrypt_keepalive c now).keepalive (encrypt_keepalive c now).control
     (λ peer counter. queueing (encrypt_keepalive c now).control (SendKeepalive peer counter))
 
 -- whether a keepalive is due
@@ -92,7 +91,7 @@ unfoldable pub maintain_connection : Control → List ℕ → Bool → (jitter n
 maintain_connection c store required jitter now =
     let d : Control = with_handshake c (expire_cookie c.handshake now) in
     choose (due_by (reject_deadline d) now) (expire_control d store now)
-    (case_time (handshake_rekey_timeout d)
+    (case_option (handshake_rekey_timeout d)
     (inner (rekey_or_keepalive d required jitter now) store)
     (λ retry. give_up_or_retry d store required jitter now))
 
@@ -109,7 +108,7 @@ unfoldable pub expire_sessions : Control → List ℕ → (jitter now : ℕ) →
 expire_sessions c store jitter now =
     let e : Expiring = expire c.sessions store now in
     let d : Control = with_sessions c e.expired.sessions in
-    case_found e.expired.current (maintain_connection d e.store false jitter now)
+    case_option e.expired.current (maintain_connection d e.store false jitter now)
     (λ session. choose (is_lost d session) (expire_control d e.store now) (maintain_connection d e.store (is_replaced d session) jitter now))
 
 -- the scheduled handshake sent
@@ -122,10 +121,10 @@ send_scheduled c now =
 unfoldable pub handle_due : Control → List ℕ → (jitter now : ℕ) → Inner
 handle_due c store jitter now =
     choose (due_by (scheduled_handshake c) now) (inner (send_scheduled c now) store)
-    (case_time (scheduled_handshake c) (expire_sessions c store jitter now) (λ at. inner c store))
+    (case_option (scheduled_handshake c) (expire_sessions c store jitter now) (λ at. inner c store))
 
 -- timers advanced and due events queued
 unfoldable pub handle_timeout : Control → List ℕ → (jitter now : ℕ) → Turn
 handle_timeout c store jitter now =
     choose (expired_control c) (record { out = done c NoAnswer; store = store })
-    (record { out = out_of (handle_due c store jitter now).control NoAnswer true true; store = (handle_due c store jitter now).store })
+    (record { out = out_of (handle_due c store jitter now).control (Ok NoAnswer) true true; store = (handle_due c store jitter now).store })

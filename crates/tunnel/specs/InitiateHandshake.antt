@@ -1,5 +1,5 @@
 -- Initiations sent, after `initiate_handshake` and `restart_handshake` of src/tunnel.rs.
-use Rattle.std.specs.Prelude.{ℕ}
+use Rattle.std.specs.Prelude.{ℕ, Some, unwrap_or}
 use Rattle.base.specs.Choice.{choose}
 use Rattle.tunnel.specs.Control.{with_handshake, with_sessions, with_timers, with_first_initiation_at, done, expired_control}
 use Rattle.tunnel.specs.declared.answer.Answer.TheVariants.{NoAnswer, Initiation}
@@ -7,9 +7,8 @@ use Rattle.tunnel.specs.declared.control.Control.{Control}
 use Rattle.tunnel.specs.declared.control.Out.{Out}
 use Rattle.tunnel.specs.declared.initiate_handshake.Initiated.{Initiated}
 use Rattle.tunnel.specs.Handshake.{is_in_progress, initiate_handshake}
-use Rattle.tunnel.specs.Timers.{time_or, tick_initiation}
+use Rattle.tunnel.specs.Timers.{tick_initiation}
 use Rattle.sessions.specs.Sessions.{next_index}
-use Rattle.sessions.specs.declared.session.Time.TheVariants.{At}
 
 -- the control after an initiation was sent with the next local index
 unfoldable pub initiating : Control → ℕ → Control
@@ -20,7 +19,7 @@ initiating c now =
     (with_handshake c (initiate_handshake c.handshake (next_index c.sessions).index now))
     (next_index c.sessions).sessions)
     (tick_initiation c.timers (is_in_progress c.handshake) now))
-    (At (time_or c.first_initiation_at now))
+    (Some (unwrap_or c.first_initiation_at now))
 
 -- an initiation sent, which replaces one that is in progress
 unfoldable pub initiate : Control → ℕ → Initiated

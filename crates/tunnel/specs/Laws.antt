@@ -1,10 +1,9 @@
 -- What else follows from the definitions: what the checks let through, what no call changes, and what a response that opened leads to.
-use Rattle.std.specs.Prelude.{◌≡◌, Bool, true, false, List, ℕ, ◌≤◌}
+use Rattle.std.specs.Prelude.{◌≡◌, Bool, true, false, List, ℕ, ◌≤◌, Option, Some, Ok}
 use Rattle.sessions.specs.Session.{time_limit, new_session, with_id}
 use Rattle.sessions.specs.Sessions.{current_of, insert}
 use Rattle.sessions.specs.declared.session.Role.TheVariants.{Initiator}
 use Rattle.sessions.specs.declared.session.Session.{Session}
-use Rattle.sessions.specs.declared.sessions.Found.TheVariants.{Got}
 use Rattle.tunnel.specs.Control.{with_handshake, with_sessions, done}
 use Rattle.tunnel.specs.Damage.{undamaged}
 use Rattle.tunnel.specs.Encapsulate.{encrypt_keepalive}
@@ -12,20 +11,18 @@ use Rattle.tunnel.specs.HandleHandshake.{confirming, complete}
 use Rattle.tunnel.specs.Tunnel.{gate, call_start, call_restart, call_send, call_receive, call_look, call_initiation, call_response, call_cookie, call_timeout, call_settle, call_event, call_deadline, call_missing}
 use Rattle.tunnel.specs.declared.answer.Answer.TheVariants.{Keepalive}
 use Rattle.tunnel.specs.declared.control.Control.{Control}
-use Rattle.tunnel.specs.declared.encapsulate.Datagram.TheVariants.{Sent}
 use Rattle.tunnel.specs.declared.handshake.Handshake.{Handshake}
-use Rattle.tunnel.specs.declared.timers.Interval.{Interval}
 use Rattle.tunnel.specs.declared.tunnel.Tunnel.{Tunnel}
 
 -- A call that the checks 1, 2, 14 and 13 let through has a time within the limit, good arguments, an undamaged tunnel and a time not before the greatest one.
 pub record GateLaw (t : Tunnel) (bad : Bool) (now : ℕ) : Type 0 where
-  pub limited : gate t bad now ≡ 0 → now ≤ time_limit
-  pub good : gate t bad now ≡ 0 → bad ≡ false
-  pub whole : gate t bad now ≡ 0 → undamaged t ≡ true
-  pub onward : gate t bad now ≡ 0 → t.greatest ≤ now
+  pub limited : gate t bad now ≡ Ok tt → now ≤ time_limit
+  pub good : gate t bad now ≡ Ok tt → bad ≡ false
+  pub whole : gate t bad now ≡ Ok tt → undamaged t ≡ true
+  pub onward : gate t bad now ≡ Ok tt → t.greatest ≤ now
 
 -- the persistent keepalive's setting of a tunnel
-abbrev pub setting_of : Tunnel → Interval
+abbrev pub setting_of : Tunnel → Option ℕ
 setting_of t = t.control.timers.persistent_keepalive
 
 -- No call changes the persistent keepalive's setting.
@@ -57,9 +54,9 @@ confirmed_by c handshake store receiver peer now =
 -- A response that opened:
 pub record ResponseLaw (c : Control) (handshake : Handshake) (store : List ℕ) (receiver peer now : ℕ) : Type 0 where
   -- its session is the current one
-  pub current : current_of (confirmed_by c handshake store receiver peer now).sessions ≡ Got (with_id (establishing receiver peer now) c.sessions.inserted)
+  pub current : current_of (confirmed_by c handshake store receiver peer now).sessions ≡ Some (with_id (establishing receiver peer now) c.sessions.inserted)
   -- the keepalive has its first counter
-  pub first : (encrypt_keepalive (confirmed_by c handshake store receiver peer now) now).keepalive ≡ Sent peer 0
+  pub first : (encrypt_keepalive (confirmed_by c handshake store receiver peer now) now).keepalive ≡ Some (peer, 0)
   -- which is what it is answered with
   pub answer : complete c handshake store (establishing receiver peer now) receiver now
       ≡ done (encrypt_keepalive (confirmed_by c handshake store receiver peer now) now).control (Keepalive peer 0)

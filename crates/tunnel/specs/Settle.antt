@@ -1,5 +1,5 @@
 -- Settling: wakings at one time until the next deadline is later or none, three at most.
-use Rattle.std.specs.Prelude.{Bool, true, false, List, ℕ, zero, suc, ltb}
+use Rattle.std.specs.Prelude.{Bool, true, false, List, ℕ, zero, suc, ltb, Ok}
 use Rattle.base.specs.Choice.{choose}
 use Rattle.sessions.specs.Session.{due_by}
 use Rattle.tunnel.specs.Control.{Turn, out_of, expired_control}
@@ -33,7 +33,7 @@ repeat_waking (suc most) c store jitter now =
 
 -- what a settling hands back that made so many wakings; without one the last update stays
 abbrev pub woke : Control → ℕ → Out
-woke c wakings = out_of c (Woke wakings) true (ltb 0 wakings)
+woke c wakings = out_of c (Ok (Woke wakings)) true (ltb 0 wakings)
 
 -- the repetition, three times at most
 unfoldable pub settle : Control → List ℕ → (jitter now : ℕ) → Turn

@@ -1,10 +1,9 @@
 -- What settling comes to: the plain repetition of single wakings, without a bound, said of the calls.
-use Rattle.std.specs.Prelude.{◌≡◌, List, [], ◌∷◌, ℕ, suc, ◌-◌, ◌^◌, ◌≤◌, ◌<◌}
+use Rattle.std.specs.Prelude.{◌≡◌, List, [], ◌∷◌, ℕ, suc, ◌-◌, ◌^◌, ◌≤◌, ◌<◌, None, Some, Ok}
 use Rattle.base.specs.Lists.{zeros}
 use Rattle.sessions.specs.Session.{new_session, with_counter}
 use Rattle.sessions.specs.Sessions.{new_sessions, put, select}
 use Rattle.sessions.specs.declared.session.Role.TheVariants.{Initiator}
-use Rattle.sessions.specs.declared.session.Time.TheVariants.{Never, At}
 use Rattle.tunnel.specs.AfterStates.{with_control, with_greatest}
 use Rattle.tunnel.specs.Ahead.{events_of}
 use Rattle.tunnel.specs.Answer.{number_of}
@@ -23,13 +22,13 @@ without_events t = with_control t (with_events t.control new_ring)
 -- the next deadline, queued events disregarded, is at or before a time
 pub record HasCome (t : Tunnel) (now : ℕ) : Type 0 where
   pub at : ℕ
-  pub deadline : (call_deadline (without_events t)).answer ≡ Deadline (At at)
+  pub deadline : (call_deadline (without_events t)).answer ≡ Ok (Deadline (Some at))
   pub come : at ≤ now
 
 -- it is later or none
 pub data IsLater (t : Tunnel) (now : ℕ) : Type 0 where
-  none : (call_deadline (without_events t)).answer ≡ Deadline Never → IsLater t now
-  later : (at : ℕ) → (call_deadline (without_events t)).answer ≡ Deadline (At at) → now < at → IsLater t now
+  none : (call_deadline (without_events t)).answer ≡ Ok (Deadline None) → IsLater t now
+  later : (at : ℕ) → (call_deadline (without_events t)).answer ≡ Ok (Deadline (Some at)) → now < at → IsLater t now
 
 -- The plain repetition at one time with one jitter: so many wakings, each made where the deadline has come, lead from a tunnel and a store to others
 -- where it is later or none.
@@ -41,7 +40,7 @@ pub data Repeats (jitter now : ℕ) : Tunnel → List ℕ → ℕ → Tunnel →
 
 -- what a settling is to leave that made so many wakings and came to a tunnel and a store: these, with the greatest time raised
 pub record ComesTo (t : Tunnel) (store : List ℕ) (jitter now wakings : ℕ) (last : Tunnel) (left : List ℕ) : Type 0 where
-  pub answer : (call_settle t store jitter now).answered.answer ≡ Woke wakings
+  pub answer : (call_settle t store jitter now).answered.answer ≡ Ok (Woke wakings)
   pub tunnel : (call_settle t store jitter now).answered.tunnel ≡ with_greatest last now
   pub words : (call_settle t store jitter now).store ≡ left
 
@@ -76,8 +75,8 @@ settling counters jitter now = (call_settle (granted counters) (zeros 1024) jitt
 -- There are settlings that wake never, once, twice and three times: before the keepalive; for the keepalive; for the keepalive whose counter brings
 -- the session to 2^60, and to schedule the handshake that is then required for later; and also to send it at once. The events are those of single wakings.
 pub record SettleExample : Type 0 where
-  pub never : (settling 1 0 999999999).answer ≡ Woke 0
-  pub once : (settling 1 0 1000000000).answer ≡ Woke 1
-  pub twice : (settling (2 ^ 60 - 1) 1 1000000000).answer ≡ Woke 2
-  pub thrice : (settling (2 ^ 60 - 1) 0 1000000000).answer ≡ Woke 3
-  pub queue : events_of (settling (2 ^ 60 - 1) 0 1000000000).tunnel ≡ SendKeepalive 9 (2 ^ 60 - 1) ∷ SendHandshakeInitiation 258 ∷ []
+  pub never : (settling 1 0 999999999).answer ≡ Ok (Woke 0)
+  pub once : (settling 1 0 1000000000).answer ≡ Ok (Woke 1)
+  pub twice : (settling (2 ^ 60 - 1) 1 1000000000).answer ≡ Ok (Woke 2)
+  pub thrice : (settling (2 ^ 60 - 1) 0 1000000000).answer ≡ Ok (Woke 3)
+  pub queue : events_of (settling (2 ^ 60 - 1) 0 1000000000).tunnel ≡ Some (SendKeepalive 9 (2 ^ 60 - 1)) ∷ Some (SendHandshakeInitiation 258) ∷ []

@@ -1,5 +1,5 @@
 -- Soundness of the calls: what number 14 lets through is handed back so that it lets it through again.
-use Rattle.std.specs.Prelude.{◌≡◌, true, List, ℕ, length}
+use Rattle.std.specs.Prelude.{◌≡◌, true, List, ℕ, length, Ok}
 use Rattle.tunnel.specs.declared.answer.Answer.TheVariants.{Done}
 use Rattle.tunnel.specs.Damage.{undamaged}
 use Rattle.tunnel.specs.Tunnel.{call_new, call_start, call_restart, call_send, call_receive, call_look, call_initiation, call_response, call_cookie, call_timeout, call_settle, call_event, call_deadline, call_missing}
@@ -11,7 +11,7 @@ pub record Sound (t : Tunnel) : Type 0 where
   pub eight : length t.control.sessions.slots ≡ 8
   pub sixteen : length t.control.events.slots ≡ 16
 
--- Every call that is handed a sound tunnel hands back a sound one, turned down or not.
+-- Some call that is handed a sound tunnel hands back a sound one, turned down or not.
 pub record SoundLaw (t : Tunnel) : Type 0 where
   pub start : (now : ℕ) → Sound (call_start t now).tunnel
   pub restart : (now : ℕ) → Sound (call_restart t now).tunnel
@@ -28,7 +28,7 @@ pub record SoundLaw (t : Tunnel) : Type 0 where
   pub deadline : Sound (call_deadline t).tunnel
   pub missing : (store : List ℕ) (index : ℕ) → Sound (call_missing t store index).tunnel
 
--- Every call that changes the store hands it back with 1,024 words if it came with so many, whatever the tunnel.
+-- Some call that changes the store hands it back with 1,024 words if it came with so many, whatever the tunnel.
 pub record StoreLaw (t : Tunnel) (store : List ℕ) : Type 0 where
   pub receive : (index id now : ℕ) (counters kinds verdicts skips : List ℕ)
       → length (call_receive t store index id now counters kinds verdicts skips).store ≡ 1024
@@ -40,4 +40,4 @@ pub record StoreLaw (t : Tunnel) (store : List ℕ) : Type 0 where
 -- A creation hands back a sound tunnel, turned down or not, and a store of 1,024 words where it is not turned down.
 pub record CreatedLaw (store : List ℕ) (index keepalive now : ℕ) : Type 0 where
   pub tunnel : Sound (call_new store index keepalive now).answered.tunnel
-  pub words : (call_new store index keepalive now).answered.answer ≡ Done → length (call_new store index keepalive now).store ≡ 1024
+  pub words : (call_new store index keepalive now).answered.answer ≡ Ok Done → length (call_new store index keepalive now).store ≡ 1024

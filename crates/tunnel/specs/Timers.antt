@@ -1,14 +1,8 @@
 -- The timers of the protocol, after src/timers.rs. Times are nanoseconds, the persistent keepalive's interval is seconds.
-use Rattle.std.specs.Prelude.{◌≡◌, Bool, ℕ, ◌+◌, ◌*◌, ◌≤◌}
-use Rattle.base.specs.Choice.{choose}
-use Rattle.tunnel.specs.declared.timers.Interval.{Interval}
-use Rattle.tunnel.specs.declared.timers.Interval.TheVariants.{Every}
+use Rattle.std.specs.Prelude.{◌≡◌, Bool, ℕ, ◌+◌, ◌*◌, ◌≤◌, None, Option, Some, unwrap_or}
+use Rattle.base.specs.Choice.{choose, case_option}
 use Rattle.tunnel.specs.declared.timers.Timers.{Timers}
 use Rattle.sessions.specs.Session.{reject_after_time, keepalive_timeout, rekey_timeout}
-use Rattle.sessions.specs.Cases.{case_time}
-use Rattle.sessions.specs.declared.session.Time.{Time}
-use Rattle.sessions.specs.declared.session.Time.TheVariants.{Never, At}
-use Rattle.tunnel.specs.Cases.{case_interval}
 
 -- 90 s
 abbrev pub rekey_attempt_time : ℕ
@@ -27,13 +21,13 @@ abbrev pub greatest_interval : ℕ
 greatest_interval = 65535
 
 -- a time, if present, is at most this
-pub record TimeWithin (time : Time) (most : ℕ) : Type 0 where
-  pub within : (at : ℕ) → time ≡ At at → at ≤ most
+pub record TimeWithin (time : Option ℕ) (most : ℕ) : Type 0 where
+  pub within : (at : ℕ) → time ≡ Some at → at ≤ most
 
 -- a persistent keepalive, if set, has 1 to 65,535 seconds
-pub record IntervalWithin (interval : Interval) : Type 0 where
-  pub least : (seconds : ℕ) → interval ≡ Every seconds → 1 ≤ seconds
-  pub greatest : (seconds : ℕ) → interval ≡ Every seconds → seconds ≤ 65535
+pub record IntervalWithin (interval : Option ℕ) : Type 0 where
+  pub least : (seconds : ℕ) → interval ≡ Some seconds → 1 ≤ seconds
+  pub greatest : (seconds : ℕ) → interval ≡ Some seconds → seconds ≤ 65535
 
 -- no timer is above this time, the scheduled handshake by the jitter at most, and the persistent keepalive is in range
 pub record TimersWithin (t : Timers) (most : ℕ) : Type 0 where
@@ -50,7 +44,7 @@ pub record TimersWithin (t : Timers) (most : ℕ) : Type 0 where
   pub interval : IntervalWithin t.persistent_keepalive
 
 -- timers that all stand at one time
-unfoldable pub new_timers : Interval → ℕ → Timers
+unfoldable pub new_timers : Option ℕ → ℕ → Timers
 new_timers interval now = record {
   time_last_handshake_completed = now;
   time_last_handshake_started = now;
@@ -59,10 +53,10 @@ new_timers interval now = record {
   time_last_data_packet_received = now;
   time_last_data_packet_sent = now;
   time_persistent_keepalive = now;
-  last_data_received_without_reply = Never;
-  first_data_sent_without_reply = Never;
+  last_data_received_without_reply = None;
+  first_data_sent_without_reply = None;
   persistent_keepalive = interval;
-  send_handshake_at = Never;
+  send_handshake_at = None;
 }
 
 -- timers with another time of the last completed handshake
@@ -178,7 +172,7 @@ with_persistent t x = record {
 }
 
 -- timers with another time of data received without a reply
-abbrev pub with_received_without_reply : Timers → Time → Timers
+abbrev pub with_received_without_reply : Timers → Option ℕ → Timers
 with_received_without_reply t x = record {
   time_last_handshake_completed = t.time_last_handshake_completed;
   time_last_handshake_started = t.time_last_handshake_started;
@@ -194,7 +188,7 @@ with_received_without_reply t x = record {
 }
 
 -- timers with another time of data sent without a reply
-abbrev pub with_sent_without_reply : Timers → Time → Timers
+abbrev pub with_sent_without_reply : Timers → Option ℕ → Timers
 with_sent_without_reply t x = record {
   time_last_handshake_completed = t.time_last_handshake_completed;
   time_last_handshake_started = t.time_last_handshake_started;
@@ -210,7 +204,7 @@ with_sent_without_reply t x = record {
 }
 
 -- timers with another time of the scheduled handshake
-abbrev pub with_scheduled : Timers → Time → Timers
+abbrev pub with_scheduled : Timers → Option ℕ → Timers
 with_scheduled t x = record {
   time_last_handshake_completed = t.time_last_handshake_completed;
   time_last_handshake_started = t.time_last_handshake_started;
@@ -226,26 +220,26 @@ with_scheduled t x = record {
 }
 
 -- the connection expiry deadline
-unfoldable pub reject_after_time_of : Timers → Time
-reject_after_time_of t = At (t.time_last_handshake_completed + reject_after_time * 3)
+unfoldable pub reject_after_time_of : Timers → Option ℕ
+reject_after_time_of t = Some (t.time_last_handshake_completed + reject_after_time * 3)
 
 -- the deadline for giving up on unanswered handshake attempts
-unfoldable pub rekey_attempt_deadline : Timers → Time
-rekey_attempt_deadline t = At (t.time_last_handshake_started + rekey_attempt_time)
+unfoldable pub rekey_attempt_deadline : Timers → Option ℕ
+rekey_attempt_deadline t = Some (t.time_last_handshake_started + rekey_attempt_time)
 
 -- the new-handshake deadline for data sent without a reply
-unfoldable pub rekey_after_time_without_response : Timers → Time
+unfoldable pub rekey_after_time_without_response : Timers → Option ℕ
 rekey_after_time_without_response t =
-    case_time t.first_data_sent_without_reply Never (λ at. At (at + keepalive_timeout + rekey_timeout))
+    case_option t.first_data_sent_without_reply None (λ at. Some (at + keepalive_timeout + rekey_timeout))
 
 -- the passive-keepalive deadline for data received without a reply
-unfoldable pub keepalive_after_time_without_send : Timers → Time
-keepalive_after_time_without_send t = case_time t.last_data_received_without_reply Never (λ at. At (at + keepalive_timeout))
+unfoldable pub keepalive_after_time_without_send : Timers → Option ℕ
+keepalive_after_time_without_send t = case_option t.last_data_received_without_reply None (λ at. Some (at + keepalive_timeout))
 
 -- the next persistent-keepalive deadline
-unfoldable pub next_persistent_keepalive : Timers → Time
+unfoldable pub next_persistent_keepalive : Timers → Option ℕ
 next_persistent_keepalive t =
-    case_interval t.persistent_keepalive Never (λ seconds. At (t.time_persistent_keepalive + seconds * 1000000000))
+    case_option t.persistent_keepalive None (λ seconds. Some (t.time_persistent_keepalive + seconds * 1000000000))
 
 -- all seven timers at one time, and nothing without a reply
 unfoldable pub clear_timers : Timers → ℕ → Timers
@@ -257,8 +251,8 @@ clear_timers t now = record {
   time_last_data_packet_received = now;
   time_last_data_packet_sent = now;
   time_persistent_keepalive = now;
-  last_data_received_without_reply = Never;
-  first_data_sent_without_reply = Never;
+  last_data_received_without_reply = None;
+  first_data_sent_without_reply = None;
   persistent_keepalive = t.persistent_keepalive;
   send_handshake_at = t.send_handshake_at;
 }
@@ -273,43 +267,39 @@ tick_last_handshake_started t now = with_started t now
 
 -- a packet was received, which answers data that was sent
 unfoldable pub tick_last_packet_received : Timers → ℕ → Timers
-tick_last_packet_received t now = with_sent_without_reply (with_received t now) Never
+tick_last_packet_received t now = with_sent_without_reply (with_received t now) None
 
 -- a packet was sent, which answers data that was received
 unfoldable pub tick_last_packet_sent : Timers → ℕ → Timers
-tick_last_packet_sent t now = with_received_without_reply (with_sent t now) Never
+tick_last_packet_sent t now = with_received_without_reply (with_sent t now) None
 
 -- data was received, to which nothing has been sent since
 unfoldable pub tick_last_data_packet_received : Timers → ℕ → Timers
-tick_last_data_packet_received t now = with_received_without_reply (with_data_received t now) (At now)
-
--- a present time, or else this one
-unfoldable pub time_or : Time → ℕ → ℕ
-time_or time now = case_time time now (λ at. at)
+tick_last_data_packet_received t now = with_received_without_reply (with_data_received t now) (Some now)
 
 -- data was sent; later sends do not postpone the deadline for the first unanswered packet
 unfoldable pub tick_last_data_packet_sent : Timers → ℕ → Timers
-tick_last_data_packet_sent t now = with_sent_without_reply (with_data_sent t now) (At (time_or t.first_data_sent_without_reply now))
+tick_last_data_packet_sent t now = with_sent_without_reply (with_data_sent t now) (Some (unwrap_or t.first_data_sent_without_reply now))
 
 -- a persistent keepalive was due
 unfoldable pub tick_persistent_keepalive : Timers → ℕ → Timers
 tick_persistent_keepalive t now = with_persistent t now
 
 -- the retry deadline for a handshake initiation sent at this time
-unfoldable pub rekey_timeout_of : Time → Time
-rekey_timeout_of sent = case_time sent Never (λ at. At (at + rekey_timeout))
+unfoldable pub rekey_timeout_of : Option ℕ → Option ℕ
+rekey_timeout_of sent = case_option sent None (λ at. Some (at + rekey_timeout))
 
 -- a handshake scheduled
 unfoldable pub schedule_handshake : Timers → ℕ → Timers
-schedule_handshake t at = with_scheduled t (At at)
+schedule_handshake t at = with_scheduled t (Some at)
 
 -- a scheduled handshake cancelled
 unfoldable pub cancel_scheduled_handshake : Timers → Timers
-cancel_scheduled_handshake t = with_scheduled t Never
+cancel_scheduled_handshake t = with_scheduled t None
 
 -- the passive-keepalive deadline dropped
 unfoldable pub consume_passive_keepalive : Timers → Timers
-consume_passive_keepalive t = with_received_without_reply t Never
+consume_passive_keepalive t = with_received_without_reply t None
 
 -- messages were accepted, data among them or not
 unfoldable pub tick_accepted : Timers → Bool → ℕ → Timers

@@ -1,13 +1,10 @@
 // The answers of the calls.
 use crate::event::Event;
 use sessions::range::Range;
-use sessions::session::Time;
 
-// What a call answers.
-#[derive(Clone, Copy)]
+// What a call answers that is not turned down.
+#[derive(Clone, Copy, PartialEq, Eq)]
 pub enum Answer {
-    // The number that turns the call down.
-    No(u8),
     // Good, and nothing to tell.
     Done,
     // Good, and there is nothing to send.
@@ -19,9 +16,9 @@ pub enum Answer {
     // The peer's index and the counter of a keepalive.
     Keepalive(u32, u64),
     Granted(Range),
-    // The oldest event; `Empty` where none is queued.
-    Polled(Event),
-    Deadline(Time),
+    // The oldest event, if any is queued.
+    Polled(Option<Event>),
+    Deadline(Option<u64>),
     // How many window counters are not committed.
     Report(u64),
     // How many wakings a settling made.

@@ -1,4 +1,6 @@
 // A tunnel's control, and what an operation on it hands back.
+#![tactic(auto, unfolding(crate::specs::Control::new_control, crate::specs::Control::refuse, crate::specs::Control::done, crate::specs::Control::expired_control, crate::specs::Control::queueing, crate::specs::Control::poll_event, crate::specs::Control::missing_report, base::specs::Choice::choose, base::specs::Choice::case_result))]
+
 ghost use Rattle.std.specs.Prelude.{◌≡◌};
 ghost use Rattle.tunnel.specs.Control.{new_control, refuse, done, expired_control, queueing, poll_event, missing_report};
 ghost use Rattle.tunnel.specs.RingBuffer.{RingWithin};
@@ -7,33 +9,33 @@ use crate::answer::Answer;
 use crate::event::Event;
 use crate::handshake::Handshake;
 use crate::ring_buffer::RingBuffer;
-use crate::timers::{Interval, Timers};
-use sessions::session::Time;
-use sessions::sessions::{Missing, Sessions};
+use crate::timers::Timers;
+use error::Error;
+use sessions::sessions::Sessions;
 
 // The Rust's `Tunnel`, save `TimeLastUpdate`.
-#[derive(Clone, Copy)]
+#[derive(Clone, Copy, PartialEq, Eq)]
 pub struct Control {
     pub handshake: Handshake,
     pub sessions: Sessions,
     pub timers: Timers,
     pub events: RingBuffer,
-    pub first_initiation_at: Time,
+    pub first_initiation_at: Option<u64>,
     pub established: bool,
 }
 
-// What an operation leaves behind and answers, whether it raises the greatest time, and whether it ticks `TimeLastUpdate`.
-#[derive(Clone, Copy)]
+// What an operation leaves behind and answers or is turned down by, whether it raises the greatest time, and whether it ticks `TimeLastUpdate`.
+#[derive(Clone, Copy, PartialEq, Eq)]
 pub struct Out {
     pub control: Control,
-    pub answer: Answer,
+    pub answer: Result<Answer, Error>,
     pub raises: bool,
     pub updates: bool,
 }
 
 impl Control {
     // A tunnel's control at its creation.
-    pub(crate) fn new(index: u32, persistent_keepalive: Interval, now: u64) -> Control
+    pub(crate) fn new(index: u32, persistent_keepalive: Option<u64>, now: u64) -> Control
         ensures { result ≡ new_control index persistent_keepalive now }
     {
         Control {
@@ -41,18 +43,18 @@ impl Control {
             sessions: Sessions::new(index),
             timers: Timers::new(persistent_keepalive, now),
             events: RingBuffer::new(),
-            first_initiation_at: Time::Never,
+            first_initiation_at: None,
             established: false,
         }
     }
 
     // A call that is turned down, with what it leaves behind.
-    pub(crate) fn refuse(self, number: u8) -> Out
-        ensures { result ≡ refuse self number }
+    pub(crate) fn refuse(self, error: Error) -> Out
+        ensures { result ≡ refuse self error }
     {
         Out {
             control: self,
-            answer: Answer::No(number),
+            answer: Err(error),
             raises: false,
             updates: false,
         }
@@ -64,7 +66,7 @@ impl Control {
     {
         Out {
             control: self,
-            answer,
+            answer: Ok(answer),
             raises: true,
             updates: false,
         }
@@ -92,12 +94,10 @@ impl Control {
         ensures { result ≡ poll_event self }
     {
         let popped = self.events.pop_front();
-        let after = popped.events;
-        let event = popped.event;
-        self.events = after;
+        self.events = popped.events;
         Out {
             control: self,
-            answer: Answer::Polled(event),
+            answer: Ok(Answer::Polled(popped.event)),
             raises: false,
             updates: false,
         }
@@ -107,17 +107,15 @@ impl Control {
     pub(crate) fn missing(self, store: &[u64], index: u32) -> Out
         ensures { result ≡ missing_report self store.now index }
     {
-        let missing = self.sessions.missing(store, index);
-        match missing {
-            Missing::Refused(number) => return self.refuse(number),
-            Missing::Count(count) => {
-                return Out {
-                    control: self,
-                    answer: Answer::Report(count),
-                    raises: false,
-                    updates: false,
-                };
-            }
+        let count = match self.sessions.missing(store, index) {
+            Ok(count) => count,
+            Err(error) => return self.refuse(error),
+        };
+        Out {
+            control: self,
+            answer: Ok(Answer::Report(count)),
+            raises: false,
+            updates: false,
         }
     }
 }

@@ -1,4 +1,6 @@
 // Data and keepalives received.
+#![tactic(auto, unfolding(crate::specs::Decapsulate::confirm_first_session, crate::specs::Decapsulate::accept, crate::specs::Decapsulate::commit_decapsulate, crate::specs::Decapsulate::begin_decapsulate, base::specs::Choice::choose, base::specs::Choice::case_option, base::specs::Choice::case_result, base::specs::Choice::case_results))]
+
 ghost use Rattle.std.specs.Prelude.{◌≡◌};
 ghost use Rattle.sessions.specs.Batch.{LeavesBatch};
 ghost use Rattle.tunnel.specs.RingBuffer.{RingWithin};
@@ -9,9 +11,9 @@ ghost use Rattle.tunnel.specs.Decapsulate.{confirm_first_session, accept, commit
 use crate::answer::Answer;
 use crate::control::{Control, Out};
 use crate::event::Event;
-use sessions::batch::{Progress, Received};
+use error::Error;
+use sessions::batch::Progress;
 use sessions::session::Session;
-use sessions::sessions::Found;
 
 impl Control {
     // Queues the event of the first session's confirmation.
@@ -36,12 +38,7 @@ impl Control {
         if progress.accepted {
             self.sessions = self.sessions.set_current(index);
             self.timers = self.timers.tick_accepted(progress.data, now);
-            if self.established {
-                return self.done(Answer::Done);
-            }
-            return self
-                .confirm_first_session(session.established_at, now)
-                .done(Answer::Done);
+            self = self.confirm_first_session(session.established_at, now);
         }
         self.done(Answer::Done)
     }
@@ -62,17 +59,16 @@ impl Control {
         ensures { LeavesBatch (commit_decapsulate self store.old index id now counters.now kinds.now verdicts.old skips.old) result store.new verdicts.new skips.new }
     {
         if self.is_expired() {
-            return self.refuse(11);
+            return self.refuse(Error::ConnectionExpired);
         }
         let received = self
             .sessions
             .receive(store, index, id, now, counters, kinds, verdicts, skips);
-        match received {
-            Received::Rejected(number) => return self.refuse(number),
-            Received::Judged(session, progress) => {
-                return self.accept(session, progress, index, now);
-            }
-        }
+        let (session, progress) = match received {
+            Ok(judged) => judged,
+            Err(error) => return self.refuse(error),
+        };
+        self.accept(session, progress, index, now)
     }
 
     // The early look at a data message, which changes nothing.
@@ -80,21 +76,20 @@ impl Control {
         ensures { result ≡ begin_decapsulate self store.now index counter now }
     {
         if self.is_expired() {
-            return self.refuse(11);
+            return self.refuse(Error::ConnectionExpired);
         }
-        let Found::Got(session) = self.sessions.in_slot_of(index) else {
-            return self.refuse(12);
+        let Some(session) = self.sessions.in_slot_of(index) else {
+            return self.refuse(Error::NoCurrentSession);
         };
         if session.expired_at(now) {
-            return self.refuse(12);
+            return self.refuse(Error::NoCurrentSession);
         }
-        let number = session.will_receive(store, index, counter);
-        if number != 0 {
-            return self.refuse(number);
+        if let Err(error) = session.will_receive(store, index, counter) {
+            return self.refuse(error);
         }
         Out {
             control: self,
-            answer: Answer::Done,
+            answer: Ok(Answer::Done),
             raises: false,
             updates: false,
         }

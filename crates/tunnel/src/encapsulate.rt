@@ -1,25 +1,20 @@
 // Data and keepalives sent.
+#![tactic(auto, using(crate::proofs::Grants::granted_once), unfolding(crate::specs::Encapsulate::begin_encapsulate, crate::specs::Encapsulate::send, crate::specs::Encapsulate::encrypt_keepalive, base::specs::Choice::choose, base::specs::Choice::case_option, base::specs::Choice::case_pair))]
+
 ghost use Rattle.std.specs.Prelude.{◌≡◌};
 ghost use Rattle.tunnel.specs.Encapsulate.{grant, send, encrypt_keepalive};
 
 use crate::answer::Answer;
 use crate::control::{Control, Out};
+use error::Error;
 use sessions::range::Range;
-use sessions::session::{Reserved, Session};
-use sessions::sessions::Found;
+use sessions::session::Session;
 
-// A keepalive: its peer index and counter, or none for want of a session.
-#[derive(Clone, Copy)]
-pub enum Datagram {
-    Skipped,
-    Sent(u32, u64),
-}
-
-// The control after a keepalive.
-#[derive(Clone, Copy)]
+// The control after a keepalive, and its peer index and counter, or none for want of a session.
+#[derive(Clone, Copy, PartialEq, Eq)]
 pub struct Encrypted {
     pub control: Control,
-    pub keepalive: Datagram,
+    pub keepalive: Option<(u32, u64)>,
 }
 
 impl Control {
@@ -28,14 +23,16 @@ impl Control {
     fn grant(mut self, session: Session, count: u64, now: u64) -> Out
         ensures { result ≡ grant self session count now }
     {
-        self.timers = self.timers.tick_last_packet_sent(now);
-        self.timers = self.timers.tick_last_data_packet_sent(now);
+        self.timers = self
+            .timers
+            .tick_last_packet_sent(now)
+            .tick_last_data_packet_sent(now);
         let prepared = session.prepare_packet_data();
-        let Reserved::First(first, counted) = prepared.reserve_counters(count) else {
+        let Some((first, counted)) = prepared.reserve_counters(count) else {
             self.sessions = self.sessions.put(prepared);
             return Out {
                 control: self,
-                answer: Answer::No(12),
+                answer: Err(Error::NoCurrentSession),
                 raises: true,
                 updates: false,
             };
@@ -53,10 +50,10 @@ impl Control {
         ensures { result ≡ send self count now }
     {
         if self.is_expired() {
-            return self.refuse(11);
+            return self.refuse(Error::ConnectionExpired);
         }
-        let Found::Got(session) = self.sessions.sending_session(now) else {
-            return self.refuse(12);
+        let Some(session) = self.sessions.sending_session(now) else {
+            return self.refuse(Error::NoCurrentSession);
         };
         self.grant(session, count, now)
     }
@@ -65,23 +62,21 @@ impl Control {
     pub(crate) fn encrypt_keepalive(mut self, now: u64) -> Encrypted
         ensures { result ≡ encrypt_keepalive self now }
     {
-        let Found::Got(session) = self.sessions.sending_session(now) else {
+        let reserved = self
+            .sessions
+            .sending_session(now)
+            .and_then(|session| session.reserve_counters(1));
+        let Some((counter, counted)) = reserved else {
             return Encrypted {
                 control: self,
-                keepalive: Datagram::Skipped,
-            };
-        };
-        let Reserved::First(counter, counted) = session.reserve_counters(1) else {
-            return Encrypted {
-                control: self,
-                keepalive: Datagram::Skipped,
+                keepalive: None,
             };
         };
         self.sessions = self.sessions.put(counted);
         self.timers = self.timers.tick_last_packet_sent(now);
         Encrypted {
             control: self,
-            keepalive: Datagram::Sent(counted.sending_index, counter),
+            keepalive: Some((counted.sending_index, counter)),
         }
     }
 }

@@ -1,10 +1,8 @@
 // The events of a tunnel.
 
 // An action for the caller, which `poll_event` hands out.
-#[derive(Clone, Copy)]
+#[derive(Clone, Copy, PartialEq, Eq)]
 pub enum Event {
-    // No event: what an unused place of the ring holds.
-    Empty,
     // Send the initiation with this local index.
     SendHandshakeInitiation(u32),
     // Send the keepalive with this peer index and counter.

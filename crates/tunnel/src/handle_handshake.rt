@@ -1,4 +1,6 @@
 // Handshake messages received.
+#![tactic(auto, unfolding(crate::specs::HandleHandshake::responding, crate::specs::HandleHandshake::respond, crate::specs::HandleHandshake::handle_handshake_initiation, crate::specs::HandleHandshake::confirming, crate::specs::HandleHandshake::establish, crate::specs::HandleHandshake::complete, crate::specs::HandleHandshake::handle_handshake_response, crate::specs::HandleHandshake::handle_cookie_reply, base::specs::Choice::choose, base::specs::Choice::case_pair, base::specs::Choice::case_result, base::specs::Choice::case_results))]
+
 ghost use Rattle.std.specs.Prelude.{◌≡◌};
 ghost use Rattle.sessions.specs.Sessions.{insert};
 ghost use Rattle.sessions.specs.Store.{Leaves};
@@ -7,9 +9,8 @@ ghost use Rattle.tunnel.specs.RingBuffer.{RingWithin};
 
 use crate::answer::Answer;
 use crate::control::{Control, Out};
-use crate::encapsulate::Datagram;
-use crate::handshake::{Completed, Cookie, Handshake};
-use crate::timers::get_or;
+use crate::handshake::Handshake;
+use error::Error;
 use sessions::session::Session;
 
 impl Control {
@@ -31,11 +32,11 @@ impl Control {
 
     // Answers a handshake initiation with a local index already allocated.
     fn respond(
-        mut self,
+        self,
         store: &mut [u64],
         local_index: u32,
         peer: u32,
-        outcome: u8,
+        outcome: Result<(), Error>,
         now: u64,
     ) -> Out
         ensures { Leaves result (respond self store.old local_index peer outcome now).out store.new (respond self store.old local_index peer outcome now).store }
@@ -43,13 +44,12 @@ impl Control {
         let completed = self
             .handshake
             .receive_handshake_initialization(local_index, peer, outcome, now);
-        match completed {
-            Completed::Failed(number) => return self.refuse(number),
-            Completed::Opened(answered, session) => {
-                self = self.responded(answered, store, session, now);
-                return self.done(Answer::Response(local_index, peer));
-            }
-        }
+        let (answered, session) = match completed {
+            Ok(opened) => opened,
+            Err(error) => return self.refuse(error),
+        };
+        self.responded(answered, store, session, now)
+            .done(Answer::Response(local_index, peer))
     }
 
     // Answers a handshake initiation. Its local index is used up even where it is turned down.
@@ -57,17 +57,16 @@ impl Control {
         mut self,
         store: &mut [u64],
         peer: u32,
-        outcome: u8,
+        outcome: Result<(), Error>,
         now: u64,
     ) -> Out
         ensures { Leaves result (handle_handshake_initiation self store.old peer outcome now).out store.new (handle_handshake_initiation self store.old peer outcome now).store }
     {
         if self.is_expired() {
-            return self.refuse(11);
+            return self.refuse(Error::ConnectionExpired);
         }
         let allocated = self.sessions.next_index();
-        let after = allocated.sessions;
-        self.sessions = after;
+        self.sessions = allocated.sessions;
         self.respond(store, allocated.index, peer, outcome, now)
     }
 
@@ -76,26 +75,21 @@ impl Control {
         requires { RingWithin self.events }
         ensures { result ≡ confirming self local_index now }
     {
-        let first = self.first_initiation_at;
         self.timers = self.timers.tick_completed(now);
         self.sessions = self.sessions.set_current(local_index);
-        self.confirm_first_session(get_or(first, now), now)
+        self.confirm_first_session(self.first_initiation_at.unwrap_or(now), now)
     }
 
     // Makes the session current, confirms it, and takes the keepalive that tells the responder.
-    fn establish(mut self, local_index: u32, now: u64) -> Out
+    fn establish(self, local_index: u32, now: u64) -> Out
         requires { RingWithin self.events }
         ensures { result ≡ establish self local_index now }
     {
-        self = self.confirm(local_index, now);
-        let encrypted = self.encrypt_keepalive(now);
-        let keepalive = encrypted.keepalive;
-        match keepalive {
-            Datagram::Skipped => return encrypted.control.refuse(12),
-            Datagram::Sent(peer, counter) => {
-                return encrypted.control.done(Answer::Keepalive(peer, counter));
-            }
-        }
+        let encrypted = self.confirm(local_index, now).encrypt_keepalive(now);
+        let Some((peer, counter)) = encrypted.keepalive else {
+            return encrypted.control.refuse(Error::NoCurrentSession);
+        };
+        encrypted.control.done(Answer::Keepalive(peer, counter))
     }
 
     // Stores the session of a handshake that is completed and confirms it.
@@ -121,40 +115,41 @@ impl Control {
         store: &mut [u64],
         receiver: u32,
         peer: u32,
-        outcome: u8,
+        outcome: Result<(), Error>,
         now: u64,
     ) -> Out
         requires { RingWithin self.events }
         ensures { Leaves result (handle_handshake_response self store.old receiver peer outcome now).out store.new (handle_handshake_response self store.old receiver peer outcome now).store }
     {
         if self.is_expired() {
-            return self.refuse(11);
+            return self.refuse(Error::ConnectionExpired);
         }
         let completed = self
             .handshake
             .receive_handshake_response(receiver, peer, outcome, now);
-        match completed {
-            Completed::Failed(number) => return self.refuse(number),
-            Completed::Opened(ended, session) => {
-                return self.complete(ended, store, session, receiver, now);
-            }
-        }
+        let (ended, session) = match completed {
+            Ok(opened) => opened,
+            Err(error) => return self.refuse(error),
+        };
+        self.complete(ended, store, session, receiver, now)
     }
 
     // Stores the cookie from a reply to a handshake message of this tunnel.
-    pub(crate) fn handle_cookie_reply(mut self, receiver: u32, outcome: u8, now: u64) -> Out
+    pub(crate) fn handle_cookie_reply(
+        mut self,
+        receiver: u32,
+        outcome: Result<(), Error>,
+        now: u64,
+    ) -> Out
         ensures { result ≡ handle_cookie_reply self receiver outcome now }
     {
         if self.is_expired() {
-            return self.refuse(11);
+            return self.refuse(Error::ConnectionExpired);
         }
-        let cookie = self.handshake.receive_cookie_reply(receiver, outcome, now);
-        match cookie {
-            Cookie::Unusable(number) => return self.refuse(number),
-            Cookie::Stored(stored) => {
-                self.handshake = stored;
-                return self.done(Answer::Done);
-            }
-        }
+        self.handshake = match self.handshake.receive_cookie_reply(receiver, outcome, now) {
+            Ok(stored) => stored,
+            Err(error) => return self.refuse(error),
+        };
+        self.done(Answer::Done)
     }
 }

@@ -1,14 +1,14 @@
 // Initiations sent.
+#![tactic(auto, unfolding(crate::specs::InitiateHandshake::initiating, crate::specs::InitiateHandshake::initiate, crate::specs::InitiateHandshake::restart_handshake, crate::specs::InitiateHandshake::start_handshake, base::specs::Choice::choose))]
+
 ghost use Rattle.std.specs.Prelude.{◌≡◌};
 ghost use Rattle.tunnel.specs.InitiateHandshake.{initiate, restart_handshake, start_handshake};
 
 use crate::answer::Answer;
 use crate::control::{Control, Out};
-use crate::timers::get_or;
-use sessions::session::Time;
 
 // The control after an initiation was sent, and its local index.
-#[derive(Clone, Copy)]
+#[derive(Clone, Copy, PartialEq, Eq)]
 pub struct Initiated {
     pub control: Control,
     pub local_index: u32,
@@ -19,17 +19,15 @@ impl Control {
     pub(crate) fn initiate(self, now: u64) -> Initiated
         ensures { result ≡ initiate self now }
     {
-        let first = self.first_initiation_at;
         let allocated = self.sessions.next_index();
-        let after = allocated.sessions;
         Initiated {
             control: Control {
                 handshake: self.handshake.initiate_handshake(allocated.index, now),
-                sessions: after,
+                sessions: allocated.sessions,
                 timers: self
                     .timers
                     .tick_initiation(self.handshake.is_in_progress(), now),
-                first_initiation_at: Time::At(get_or(first, now)),
+                first_initiation_at: Some(self.first_initiation_at.unwrap_or(now)),
                 ..self
             },
             local_index: allocated.index,

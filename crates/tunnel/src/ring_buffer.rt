@@ -1,28 +1,30 @@
 // A queue of the newest sixteen events.
+#![tactic(auto, unfolding(crate::specs::RingBuffer::place_of, crate::specs::RingBuffer::empty_places, crate::specs::RingBuffer::new_ring, crate::specs::RingBuffer::ring_is_empty, crate::specs::RingBuffer::store_at, crate::specs::RingBuffer::push_back, crate::specs::RingBuffer::pop_front, base::specs::Choice::choose))]
+
 ghost use Rattle.std.specs.Prelude.{◌≡◌, ◌+◌, ◌%◌, ◌≤◌, ◌<◌};
 ghost use Rattle.tunnel.specs.RingBuffer.{RingWithin, new_ring, ring_is_empty, store_at, push_back, pop_front, QueueOfNewest};
 
 use crate::event::Event;
 
-// One place of the ring.
-#[derive(Clone, Copy)]
+// One place of the ring. An unused one holds no event.
+#[derive(Clone, Copy, PartialEq, Eq)]
 pub struct Slot {
-    pub event: Event,
+    pub event: Option<Event>,
 }
 
 // The places, that of the oldest event, and how many events there are.
-#[derive(Clone, Copy)]
+#[derive(Clone, Copy, PartialEq, Eq)]
 pub struct RingBuffer {
     pub slots: [Slot; 16],
     pub head: usize,
     pub len: usize,
 }
 
-// The ring without its oldest event, and that event.
-#[derive(Clone, Copy)]
+// The ring without its oldest event, and that event, if there was one.
+#[derive(Clone, Copy, PartialEq, Eq)]
 pub struct Popped {
     pub events: RingBuffer,
-    pub event: Event,
+    pub event: Option<Event>,
 }
 
 // The place at an offset from the head.
@@ -38,9 +40,7 @@ impl RingBuffer {
     pub(crate) fn new() -> RingBuffer
         ensures { result ≡ new_ring }
     {
-        let empty = Slot {
-            event: Event::Empty,
-        };
+        let empty = Slot { event: None };
         RingBuffer {
             slots: [empty; 16],
             head: 0,
@@ -55,49 +55,37 @@ impl RingBuffer {
         self.len == 0
     }
 
-    // Stores an event at a place.
-    fn store(mut self, place: usize, event: Event) -> RingBuffer
-        requires { place < 16 }
-        ensures { result ≡ store_at self place event }
-    {
-        self.slots[place] = Slot { event };
-        self
-    }
-
     // Appends an event, overwriting the oldest one when full.
-    pub(crate) fn push_back(self, event: Event) -> RingBuffer
+    pub(crate) fn push_back(mut self, event: Event) -> RingBuffer
         requires { RingWithin self }
         ensures { result ≡ push_back self event }
     {
         let place = place_of(self.head, self.len);
-        let mut ring = self.store(place, event);
+        self.slots[place].event = Some(event);
         if self.len == 16 {
-            ring.head = place_of(self.head, 1);
-            return ring;
+            self.head = place_of(self.head, 1);
+        } else {
+            self.len += 1;
         }
-        ring.len = self.len + 1;
-        ring
+        self
     }
 
-    // Removes the oldest event. Its place is left with the empty one.
-    pub(crate) fn pop_front(self) -> Popped
+    // Removes the oldest event. Its place is left without an event.
+    pub(crate) fn pop_front(mut self) -> Popped
         requires { RingWithin self }
         ensures { result ≡ pop_front self }
     {
         if self.len == 0 {
             return Popped {
                 events: self,
-                event: Event::Empty,
+                event: None,
             };
         }
-        let place = self.head;
-        let slot = self.slots[place];
-        let event = slot.event;
-        let mut ring = self.store(place, Event::Empty);
-        ring.head = place_of(place, 1);
-        ring.len = self.len - 1;
+        let event = self.slots[self.head].event.take();
+        self.head = place_of(self.head, 1);
+        self.len -= 1;
         Popped {
-            events: ring,
+            events: self,
             event,
         }
     }

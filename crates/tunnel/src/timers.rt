@@ -1,9 +1,11 @@
 // The timers of the WireGuard protocol. `TimeLastUpdate` stands in the tunnel, beside its control.
+#![tactic(auto, unfolding(crate::specs::Timers::new_timers, crate::specs::Timers::reject_after_time_of, crate::specs::Timers::rekey_attempt_deadline, crate::specs::Timers::rekey_after_time_without_response, crate::specs::Timers::keepalive_after_time_without_send, crate::specs::Timers::next_persistent_keepalive, crate::specs::Timers::clear_timers, crate::specs::Timers::tick_last_handshake_completed, crate::specs::Timers::tick_last_handshake_started, crate::specs::Timers::tick_last_packet_received, crate::specs::Timers::tick_last_packet_sent, crate::specs::Timers::tick_last_data_packet_received, crate::specs::Timers::tick_last_data_packet_sent, crate::specs::Timers::tick_persistent_keepalive, crate::specs::Timers::rekey_timeout_of, crate::specs::Timers::schedule_handshake, crate::specs::Timers::cancel_scheduled_handshake, crate::specs::Timers::consume_passive_keepalive, crate::specs::Timers::tick_accepted, crate::specs::Timers::tick_response, crate::specs::Timers::tick_completed, crate::specs::Timers::tick_initiation, base::specs::Choice::choose, base::specs::Choice::case_option))]
+
 ghost use Rattle.std.specs.Prelude.{◌≡◌};
 ghost use Rattle.sessions.specs.Session.{time_limit};
-ghost use Rattle.tunnel.specs.Timers.{TimeWithin, TimersWithin, time_or, rekey_timeout_of, new_timers, reject_after_time_of, rekey_attempt_deadline, rekey_after_time_without_response, keepalive_after_time_without_send, next_persistent_keepalive, clear_timers, tick_last_handshake_completed, tick_last_handshake_started, tick_last_packet_received, tick_last_packet_sent, tick_last_data_packet_received, tick_last_data_packet_sent, tick_persistent_keepalive, tick_accepted, tick_response, tick_completed, tick_initiation, schedule_handshake, cancel_scheduled_handshake, consume_passive_keepalive};
+ghost use Rattle.tunnel.specs.Timers.{TimeWithin, TimersWithin, rekey_timeout_of, new_timers, reject_after_time_of, rekey_attempt_deadline, rekey_after_time_without_response, keepalive_after_time_without_send, next_persistent_keepalive, clear_timers, tick_last_handshake_completed, tick_last_handshake_started, tick_last_packet_received, tick_last_packet_sent, tick_last_data_packet_received, tick_last_data_packet_sent, tick_persistent_keepalive, tick_accepted, tick_response, tick_completed, tick_initiation, schedule_handshake, cancel_scheduled_handshake, consume_passive_keepalive};
 
-use sessions::session::{KEEPALIVE_TIMEOUT, REJECT_AFTER_TIME, REKEY_TIMEOUT, Time};
+use sessions::session::{KEEPALIVE_TIMEOUT, REJECT_AFTER_TIME, REKEY_TIMEOUT};
 
 // The time after which a round of unanswered handshake attempts is given up: 90 s in nanoseconds.
 pub const REKEY_ATTEMPT_TIME: u64 = 90_000_000_000;
@@ -14,15 +16,8 @@ pub const COOKIE_EXPIRATION_TIME: u64 = 120_000_000_000;
 // The most by which a scheduled handshake is put off: 333 ms in nanoseconds.
 pub const MAX_JITTER: u64 = 333_000_000;
 
-// The persistent keepalive's interval in seconds, if one is set.
-#[derive(Clone, Copy)]
-pub enum Interval {
-    Off,
-    Every(u64),
-}
-
 // When what last happened, in nanoseconds, from which the deadlines are reckoned.
-#[derive(Clone, Copy)]
+#[derive(Clone, Copy, PartialEq, Eq)]
 pub struct Timers {
     // When the last handshake completed, even if its session is not in use.
     pub time_last_handshake_completed: u64,
@@ -39,38 +34,26 @@ pub struct Timers {
     // When a persistent keepalive was last due, sent or not.
     pub time_persistent_keepalive: u64,
     // When we last received data without replying, used for the passive-keepalive deadline.
-    pub last_data_received_without_reply: Time,
+    pub last_data_received_without_reply: Option<u64>,
     // When we first sent data without a reply, used for the new-handshake deadline.
-    pub first_data_sent_without_reply: Time,
-    pub persistent_keepalive: Interval,
+    pub first_data_sent_without_reply: Option<u64>,
+    // The persistent keepalive's interval in seconds, if one is set.
+    pub persistent_keepalive: Option<u64>,
     // When the scheduled handshake is due.
-    pub send_handshake_at: Time,
+    pub send_handshake_at: Option<u64>,
 }
 
 // The retry deadline for a handshake initiation sent at this time.
-pub(crate) fn rekey_timeout(sent_at: Time) -> Time
+pub(crate) fn rekey_timeout(sent_at: Option<u64>) -> Option<u64>
     requires { TimeWithin sent_at time_limit }
     ensures { result ≡ rekey_timeout_of sent_at }
 {
-    match sent_at {
-        Time::Never => Time::Never,
-        Time::At(at) => Time::At(at + REKEY_TIMEOUT),
-    }
-}
-
-// A present time, or else this one.
-pub(crate) fn get_or(time: Time, now: u64) -> u64
-    ensures { result ≡ time_or time now }
-{
-    match time {
-        Time::Never => now,
-        Time::At(at) => at,
-    }
+    Some(sent_at? + REKEY_TIMEOUT)
 }
 
 impl Timers {
     // Timers that all stand at one time.
-    pub(crate) fn new(persistent_keepalive: Interval, now: u64) -> Timers
+    pub(crate) fn new(persistent_keepalive: Option<u64>, now: u64) -> Timers
         ensures { result ≡ new_timers persistent_keepalive now }
     {
         Timers {
@@ -81,65 +64,52 @@ impl Timers {
             time_last_data_packet_received: now,
             time_last_data_packet_sent: now,
             time_persistent_keepalive: now,
-            last_data_received_without_reply: Time::Never,
-            first_data_sent_without_reply: Time::Never,
+            last_data_received_without_reply: None,
+            first_data_sent_without_reply: None,
             persistent_keepalive,
-            send_handshake_at: Time::Never,
+            send_handshake_at: None,
         }
     }
 
     // The connection expiry deadline, three times `REJECT_AFTER_TIME` after the last handshake.
-    pub(crate) fn reject_after_time(self) -> Time
+    pub(crate) fn reject_after_time(self) -> Option<u64>
         requires { TimersWithin self time_limit }
         ensures { result ≡ reject_after_time_of self }
     {
-        Time::At(self.time_last_handshake_completed + REJECT_AFTER_TIME * 3)
+        Some(self.time_last_handshake_completed + REJECT_AFTER_TIME * 3)
     }
 
     // The deadline for giving up on unanswered handshake attempts.
-    pub(crate) fn rekey_attempt_deadline(self) -> Time
+    pub(crate) fn rekey_attempt_deadline(self) -> Option<u64>
         requires { TimersWithin self time_limit }
         ensures { result ≡ rekey_attempt_deadline self }
     {
-        Time::At(self.time_last_handshake_started + REKEY_ATTEMPT_TIME)
+        Some(self.time_last_handshake_started + REKEY_ATTEMPT_TIME)
     }
 
     // The new-handshake deadline for data sent without a reply.
-    pub(crate) fn rekey_after_time_without_response(self) -> Time
+    pub(crate) fn rekey_after_time_without_response(self) -> Option<u64>
         requires { TimersWithin self time_limit }
         ensures { result ≡ rekey_after_time_without_response self }
     {
-        let first = self.first_data_sent_without_reply;
-        match first {
-            Time::Never => Time::Never,
-            Time::At(at) => Time::At(at + KEEPALIVE_TIMEOUT + REKEY_TIMEOUT),
-        }
+        Some(self.first_data_sent_without_reply? + KEEPALIVE_TIMEOUT + REKEY_TIMEOUT)
     }
 
     // The passive-keepalive deadline for data received without a reply.
-    pub(crate) fn keepalive_after_time_without_send(self) -> Time
+    pub(crate) fn keepalive_after_time_without_send(self) -> Option<u64>
         requires { TimersWithin self time_limit }
         ensures { result ≡ keepalive_after_time_without_send self }
     {
-        let last = self.last_data_received_without_reply;
-        match last {
-            Time::Never => Time::Never,
-            Time::At(at) => Time::At(at + KEEPALIVE_TIMEOUT),
-        }
+        Some(self.last_data_received_without_reply? + KEEPALIVE_TIMEOUT)
     }
 
     // The next persistent-keepalive deadline, if configured.
-    pub(crate) fn next_persistent_keepalive(self) -> Time
+    pub(crate) fn next_persistent_keepalive(self) -> Option<u64>
         requires { TimersWithin self time_limit }
         ensures { result ≡ next_persistent_keepalive self }
     {
-        let interval = self.persistent_keepalive;
-        match interval {
-            Interval::Off => Time::Never,
-            Interval::Every(seconds) => {
-                Time::At(self.time_persistent_keepalive + seconds * 1_000_000_000)
-            }
-        }
+        let seconds = self.persistent_keepalive?;
+        Some(self.time_persistent_keepalive + seconds * 1_000_000_000)
     }
 
     // All seven timers at one time, and nothing without a reply.
@@ -154,8 +124,8 @@ impl Timers {
             time_last_data_packet_received: now,
             time_last_data_packet_sent: now,
             time_persistent_keepalive: now,
-            last_data_received_without_reply: Time::Never,
-            first_data_sent_without_reply: Time::Never,
+            last_data_received_without_reply: None,
+            first_data_sent_without_reply: None,
             ..self
         }
     }
@@ -182,7 +152,7 @@ impl Timers {
     {
         Timers {
             time_last_packet_received: now,
-            first_data_sent_without_reply: Time::Never,
+            first_data_sent_without_reply: None,
             ..self
         }
     }
@@ -193,7 +163,7 @@ impl Timers {
     {
         Timers {
             time_last_packet_sent: now,
-            last_data_received_without_reply: Time::Never,
+            last_data_received_without_reply: None,
             ..self
         }
     }
@@ -204,7 +174,7 @@ impl Timers {
     {
         Timers {
             time_last_data_packet_received: now,
-            last_data_received_without_reply: Time::At(now),
+            last_data_received_without_reply: Some(now),
             ..self
         }
     }
@@ -213,10 +183,9 @@ impl Timers {
     pub(crate) fn tick_last_data_packet_sent(self, now: u64) -> Timers
         ensures { result ≡ tick_last_data_packet_sent self now }
     {
-        let first = self.first_data_sent_without_reply;
         Timers {
             time_last_data_packet_sent: now,
-            first_data_sent_without_reply: Time::At(get_or(first, now)),
+            first_data_sent_without_reply: Some(self.first_data_sent_without_reply.unwrap_or(now)),
             ..self
         }
     }
@@ -274,7 +243,7 @@ impl Timers {
         ensures { result ≡ schedule_handshake self at }
     {
         Timers {
-            send_handshake_at: Time::At(at),
+            send_handshake_at: Some(at),
             ..self
         }
     }
@@ -284,7 +253,7 @@ impl Timers {
         ensures { result ≡ cancel_scheduled_handshake self }
     {
         Timers {
-            send_handshake_at: Time::Never,
+            send_handshake_at: None,
             ..self
         }
     }
@@ -294,7 +263,7 @@ impl Timers {
         ensures { result ≡ consume_passive_keepalive self }
     {
         Timers {
-            last_data_received_without_reply: Time::Never,
+            last_data_received_without_reply: None,
             ..self
         }
     }

@@ -1,10 +1,11 @@
-// The calls. Each hands the tunnel back with its answer; one that is turned down answers `No` with its number. The checks come in
+// The calls. Each hands the tunnel back with its answer; one that is turned down answers an error. The checks come in
 // the order 1, 2, 14, 13; then follows what the Rust itself tests.
+#![tactic(auto, using(crate::proofs::Facts::sound_ring, crate::proofs::Settling::unwoken), unfolding(crate::specs::Tunnel::new_tunnel, crate::specs::Tunnel::gate, crate::specs::Tunnel::timeless_gate, crate::specs::Tunnel::refused, crate::specs::Tunnel::let_through, crate::specs::Tunnel::timed, crate::specs::Tunnel::timeless, crate::specs::Tunnel::kept, crate::specs::Tunnel::timed_turn, crate::specs::Tunnel::timed_batch, crate::specs::Tunnel::call_new, crate::specs::Tunnel::call_start, crate::specs::Tunnel::call_restart, crate::specs::Tunnel::call_send, crate::specs::Tunnel::call_receive, crate::specs::Tunnel::call_look, crate::specs::Tunnel::call_initiation, crate::specs::Tunnel::call_response, crate::specs::Tunnel::call_cookie, crate::specs::Tunnel::call_timeout, crate::specs::Tunnel::call_settle, crate::specs::Tunnel::call_event, crate::specs::Tunnel::call_deadline, crate::specs::Tunnel::call_missing, crate::specs::Arguments::unnamed, crate::specs::Arguments::named_of, crate::specs::Arguments::lacking, crate::specs::Arguments::creation_number, base::specs::Choice::choose, base::specs::Choice::case_result))]
+
 ghost use Rattle.std.specs.Prelude.{◌≡◌};
-ghost use Rattle.base.specs.Choice.{choose};
 ghost use Rattle.sessions.specs.Batch.{LeavesBatch};
 ghost use Rattle.sessions.specs.Store.{Leaves};
-ghost use Rattle.tunnel.specs.Tunnel.{tested, tested_timeless, new_tunnel, refused, let_through, call_new, call_start, call_restart, call_send, call_receive, call_look, call_initiation, call_response, call_cookie, call_timeout, call_settle, call_event, call_deadline, call_missing};
+ghost use Rattle.tunnel.specs.Tunnel.{gate, timeless_gate, new_tunnel, refused, let_through, call_new, call_start, call_restart, call_send, call_receive, call_look, call_initiation, call_response, call_cookie, call_timeout, call_settle, call_event, call_deadline, call_missing};
 
 use crate::answer::Answer;
 use crate::arguments::{
@@ -12,13 +13,15 @@ use crate::arguments::{
     opening_outcome,
 };
 use crate::control::{Control, Out};
+use crate::handle_timeout::Waking;
+use error::Error;
 use sessions::store::zero;
 
 // The greatest time that a call may have.
 pub const TIME_LIMIT: u64 = 4_000_000_000_000_000_000;
 
 // A point-to-point WireGuard connection, without keys and without the store of its windows.
-#[derive(Clone, Copy)]
+#[derive(Clone, Copy, PartialEq, Eq)]
 pub struct Tunnel {
     pub control: Control,
     // `TimeLastUpdate`: when the timers were last updated.
@@ -28,46 +31,10 @@ pub struct Tunnel {
 }
 
 // The tunnel after a call, and the call's answer.
-#[derive(Clone, Copy)]
+#[derive(Clone, Copy, PartialEq, Eq)]
 pub struct Answered {
     pub tunnel: Tunnel,
-    pub answer: Answer,
-}
-
-// A time is set where it is to be, and otherwise stays.
-fn set_if(sets: bool, now: u64, before: u64) -> u64
-    ensures { result ≡ choose sets now before }
-{
-    if sets {
-        return now;
-    }
-    before
-}
-
-// The number that turns down a call at a time, or 0: `sound` is whether number 14 lets the tunnel through.
-fn gate(bad: bool, sound: bool, greatest: u64, now: u64) -> u8
-    ensures { result ≡ tested bad sound greatest now }
-{
-    if now > TIME_LIMIT {
-        return 1;
-    }
-    if bad {
-        return 2;
-    }
-    if !sound {
-        return 14;
-    }
-    if now < greatest {
-        return 13;
-    }
-    0
-}
-
-// The number that turns down a call without a time, or 0: as at time 0 of a tunnel whose greatest time is 0.
-fn timeless_gate(bad: bool, sound: bool) -> u8
-    ensures { result ≡ tested_timeless bad sound }
-{
-    gate(bad, sound, 0, 0)
+    pub answer: Result<Answer, Error>,
 }
 
 impl Tunnel {
@@ -82,13 +49,45 @@ impl Tunnel {
         }
     }
 
+    // What turns down a call at a time, if anything.
+    fn gate(&self, bad: bool, now: u64) -> Result<(), Error>
+        ensures { result ≡ gate self.now bad now }
+    {
+        if now > TIME_LIMIT {
+            return Err(Error::InvalidTime);
+        }
+        if bad {
+            return Err(Error::InvalidArgument);
+        }
+        if !self.undamaged() {
+            return Err(Error::DamagedState);
+        }
+        if now < self.greatest {
+            return Err(Error::ClockWentBack);
+        }
+        Ok(())
+    }
+
+    // What turns down a call without a time, if anything.
+    fn timeless_gate(&self, bad: bool) -> Result<(), Error>
+        ensures { result ≡ timeless_gate self.now bad }
+    {
+        if bad {
+            return Err(Error::InvalidArgument);
+        }
+        if !self.undamaged() {
+            return Err(Error::DamagedState);
+        }
+        Ok(())
+    }
+
     // A call that a check turns down.
-    fn refused(self, number: u8) -> Answered
-        ensures { result ≡ refused self number }
+    fn refused(self, error: Error) -> Answered
+        ensures { result ≡ refused self error }
     {
         Answered {
             tunnel: self,
-            answer: Answer::No(number),
+            answer: Err(error),
         }
     }
 
@@ -96,14 +95,16 @@ impl Tunnel {
     fn let_through(mut self, now: u64, out: Out) -> Answered
         ensures { result ≡ let_through self now out }
     {
-        let control = out.control;
-        let answer = out.answer;
-        self.control = control;
-        self.last_update = set_if(out.updates, now, self.last_update);
-        self.greatest = set_if(out.raises, now, self.greatest);
+        self.control = out.control;
+        if out.updates {
+            self.last_update = now;
+        }
+        if out.raises {
+            self.greatest = now;
+        }
         Answered {
             tunnel: self,
-            answer,
+            answer: out.answer,
         }
     }
 
@@ -111,15 +112,14 @@ impl Tunnel {
     pub fn new(store: &mut [u64], index: u32, keepalive: u64, now: u64) -> Answered
         ensures { Leaves result (call_new store.old index keepalive now).answered store.new (call_new store.old index keepalive now).store }
     {
-        let number = creation_number(store, keepalive, now);
-        if number != 0 {
+        if let Err(error) = creation_number(store, keepalive, now) {
             let none = Tunnel::new_tunnel(0, 0, 0);
-            return none.refused(number);
+            return none.refused(error);
         }
         zero(store);
         Answered {
             tunnel: Tunnel::new_tunnel(index, keepalive, now),
-            answer: Answer::Done,
+            answer: Ok(Answer::Done),
         }
     }
 
@@ -127,10 +127,8 @@ impl Tunnel {
     pub fn initiate_handshake(self, now: u64) -> Answered
         ensures { result ≡ call_start self now }
     {
-        let sound = self.undamaged();
-        let number = gate(false, sound, self.greatest, now);
-        if number != 0 {
-            return self.refused(number);
+        if let Err(error) = self.gate(false, now) {
+            return self.refused(error);
         }
         self.let_through(now, self.control.initiate_handshake(now))
     }
@@ -139,10 +137,8 @@ impl Tunnel {
     pub fn restart_handshake(self, now: u64) -> Answered
         ensures { result ≡ call_restart self now }
     {
-        let sound = self.undamaged();
-        let number = gate(false, sound, self.greatest, now);
-        if number != 0 {
-            return self.refused(number);
+        if let Err(error) = self.gate(false, now) {
+            return self.refused(error);
         }
         self.let_through(now, self.control.restart_handshake(now))
     }
@@ -151,10 +147,8 @@ impl Tunnel {
     pub fn send(self, count: u64, now: u64) -> Answered
         ensures { result ≡ call_send self count now }
     {
-        let sound = self.undamaged();
-        let number = gate(count == 0, sound, self.greatest, now);
-        if number != 0 {
-            return self.refused(number);
+        if let Err(error) = self.gate(count == 0, now) {
+            return self.refused(error);
         }
         self.let_through(now, self.control.send(count, now))
     }
@@ -174,11 +168,8 @@ impl Tunnel {
     ) -> Answered
         ensures { LeavesBatch (call_receive self store.old index id now counters.now kinds.now verdicts.old skips.old) result store.new verdicts.new skips.new }
     {
-        let bad = bad_batch(store, counters, kinds, verdicts, skips);
-        let sound = self.undamaged();
-        let number = gate(bad, sound, self.greatest, now);
-        if number != 0 {
-            return self.refused(number);
+        if let Err(error) = self.gate(bad_batch(store, counters, kinds, verdicts, skips), now) {
+            return self.refused(error);
         }
         let out = self
             .control
@@ -190,11 +181,8 @@ impl Tunnel {
     pub fn look(self, store: &[u64], index: u32, counter: u64, now: u64) -> Answered
         ensures { result ≡ call_look self store.now index counter now }
     {
-        let bad = lacks(store);
-        let sound = self.undamaged();
-        let number = gate(bad, sound, self.greatest, now);
-        if number != 0 {
-            return self.refused(number);
+        if let Err(error) = self.gate(lacks(store), now) {
+            return self.refused(error);
         }
         self.let_through(
             now,
@@ -213,15 +201,13 @@ impl Tunnel {
         ensures { Leaves result (call_initiation self store.old peer outcome now).answered store.new (call_initiation self store.old peer outcome now).store }
     {
         let found = initiation_outcome(outcome);
-        let bad = bad_outcome(found, store);
-        let sound = self.undamaged();
-        let number = gate(bad, sound, self.greatest, now);
-        if number != 0 {
-            return self.refused(number);
+        if let Err(error) = self.gate(bad_outcome(found, store), now) {
+            return self.refused(error);
         }
+        let opened = found.unwrap_or(Err(Error::InvalidArgument));
         let out = self
             .control
-            .handle_handshake_initiation(store, peer, found, now);
+            .handle_handshake_initiation(store, peer, opened, now);
         self.let_through(now, out)
     }
 
@@ -237,15 +223,13 @@ impl Tunnel {
         ensures { Leaves result (call_response self store.old receiver peer outcome now).answered store.new (call_response self store.old receiver peer outcome now).store }
     {
         let found = opening_outcome(outcome);
-        let bad = bad_outcome(found, store);
-        let sound = self.undamaged();
-        let number = gate(bad, sound, self.greatest, now);
-        if number != 0 {
-            return self.refused(number);
+        if let Err(error) = self.gate(bad_outcome(found, store), now) {
+            return self.refused(error);
         }
+        let opened = found.unwrap_or(Err(Error::InvalidArgument));
         let out = self
             .control
-            .handle_handshake_response(store, receiver, peer, found, now);
+            .handle_handshake_response(store, receiver, peer, opened, now);
         self.let_through(now, out)
     }
 
@@ -254,25 +238,22 @@ impl Tunnel {
         ensures { result ≡ call_cookie self receiver outcome now }
     {
         let found = opening_outcome(outcome);
-        let sound = self.undamaged();
-        let number = gate(found == 2, sound, self.greatest, now);
-        if number != 0 {
-            return self.refused(number);
+        if let Err(error) = self.gate(found.is_none(), now) {
+            return self.refused(error);
         }
-        self.let_through(now, self.control.handle_cookie_reply(receiver, found, now))
+        let opened = found.unwrap_or(Err(Error::InvalidArgument));
+        self.let_through(now, self.control.handle_cookie_reply(receiver, opened, now))
     }
 
     // Wakes the tunnel: advances its timers and queues due events.
     pub fn handle_timeout(self, store: &mut [u64], jitter: u64, now: u64) -> Answered
         ensures { Leaves result (call_timeout self store.old jitter now).answered store.new (call_timeout self store.old jitter now).store }
     {
-        let bad = bad_jitter(jitter, store);
-        let sound = self.undamaged();
-        let number = gate(bad, sound, self.greatest, now);
-        if number != 0 {
-            return self.refused(number);
+        if let Err(error) = self.gate(bad_jitter(jitter, store), now) {
+            return self.refused(error);
         }
-        let out = self.control.handle_timeout(store, jitter, now);
+        let waking = Waking { now, jitter };
+        let out = self.control.handle_timeout(store, waking);
         self.let_through(now, out)
     }
 
@@ -281,20 +262,18 @@ impl Tunnel {
     pub fn settle(mut self, store: &mut [u64], jitter: u64, now: u64) -> Answered
         ensures { Leaves result (call_settle self store.old jitter now).answered store.new (call_settle self store.old jitter now).store }
     {
-        let bad = bad_jitter(jitter, store);
-        let sound = self.undamaged();
-        let number = gate(bad, sound, self.greatest, now);
-        if number != 0 {
-            return self.refused(number);
+        if let Err(error) = self.gate(bad_jitter(jitter, store), now) {
+            return self.refused(error);
         }
         if !self.control.waking_due(now) {
             self.greatest = now;
             return Answered {
                 tunnel: self,
-                answer: Answer::Woke(0),
+                answer: Ok(Answer::Woke(0)),
             };
         }
-        let out = self.control.settle(store, jitter, now);
+        let waking = Waking { now, jitter };
+        let out = self.control.settle(store, waking);
         self.let_through(now, out)
     }
 
@@ -302,10 +281,8 @@ impl Tunnel {
     pub fn poll_event(self) -> Answered
         ensures { result ≡ call_event self }
     {
-        let sound = self.undamaged();
-        let number = timeless_gate(false, sound);
-        if number != 0 {
-            return self.refused(number);
+        if let Err(error) = self.timeless_gate(false) {
+            return self.refused(error);
         }
         self.let_through(0, self.control.poll_event())
     }
@@ -314,14 +291,12 @@ impl Tunnel {
     pub fn poll_timeout(self) -> Answered
         ensures { result ≡ call_deadline self }
     {
-        let sound = self.undamaged();
-        let number = timeless_gate(false, sound);
-        if number != 0 {
-            return self.refused(number);
+        if let Err(error) = self.timeless_gate(false) {
+            return self.refused(error);
         }
         Answered {
             tunnel: self,
-            answer: Answer::Deadline(self.control.poll_timeout(self.last_update)),
+            answer: Ok(Answer::Deadline(self.control.poll_timeout(self.last_update))),
         }
     }
 
@@ -329,11 +304,8 @@ impl Tunnel {
     pub fn missing(self, store: &[u64], index: u32) -> Answered
         ensures { result ≡ call_missing self store.now index }
     {
-        let bad = lacks(store);
-        let sound = self.undamaged();
-        let number = timeless_gate(bad, sound);
-        if number != 0 {
-            return self.refused(number);
+        if let Err(error) = self.timeless_gate(lacks(store)) {
+            return self.refused(error);
         }
         self.let_through(0, self.control.missing(store, index))
     }

@@ -5,56 +5,47 @@ use Rattle.std.proofs.Common.{◌≡◌, ℕ, ◌+◌, ◌-◌, ◌%◌, ◌<◌
 use native.Mathlib.Decide.{ℕ_discrete, dec_le}
 use Rattle.base.specs.Choice.{choose}
 use Rattle.base.proofs.Bits.{bit_zero}
-use Rattle.base.proofs.Choice.{picks, yes_le, no_le, yes_eq, no_eq}
 use Rattle.base.proofs.Sums.{cycled_again}
 use Rattle.base.proofs.Zeros.{zeros_at, length_zeros}
 use Rattle.base.specs.Lists.{zeros}
+use Rattle.error.specs.Error.{verdict_number}
 use Rattle.window.specs.Window.{limit, word_of, bit_of, bit_at, check_bit, set_bit, clears, advance, is_invalid, will_accept, next_after, words_after}
 use Rattle.window.specs.History.{member, expected, judged, commit_to, seen, past, Represents, fresh, given, grown, verdict, committed}
+use Rattle.window.proofs.Verdict.{next_by_number, words_by_number}
 use Rattle.window.proofs.Words.{length-set_bit, set_bit-fits, set_hit, set_miss, clears_hit, clears_miss}
-use Rattle.window.proofs.Ready.{empty_fits, valid, valid_only, advance_none, advance_near, advance_far, length_advance, advance_fits}
+use Rattle.window.proofs.Ready.{empty_fits, advance_none, advance_near, advance_far, length_advance, advance_fits}
 
 -- membership
-member_here : (c : ℕ) (history : List ℕ) → member c (c ∷ history) ≡ true
-unfolding member
-member_here c history = sym (yes_eq c c true true (member c history) refl refl)
-
 member_there : (c x : ℕ) (history : List ℕ) → (c ≡ x → ⊥) → member c (x ∷ history) ≡ member c history
-unfolding member
-member_there c x history h = sym (no_eq c x (member c history) true (member c history) h refl)
+unfolding member choose
+member_there c x history h = grind arith
 
 -- no counter at or above the next expected one is in the history
 member_ahead : (c : ℕ) (history : List ℕ) → expected history ≤ c → member c history ≡ false
 unfolding member expected
 member_ahead c [] h = refl
-member_ahead c (x ∷ history) h =
-    let other : c ≡ x → ⊥ = λ e. omega arith in
-    member_there c x history other ∙ member_ahead c history (omega arith)
+member_ahead c (x ∷ history) h = member_there c x history (λ e. omega arith) ∙ member_ahead c history (omega arith)
 
 -- the same of `seen`
-seen_is : (history : List ℕ) (c : ℕ) (b : Bool) → member c history ≡ b → seen history c ≡ choose b 1 0
-unfolding seen
-seen_is history c b e = rw e
-
-seen_yes : (history : List ℕ) (c : ℕ) → member c history ≡ true → seen history c ≡ 1
-unfolding choose
-seen_yes history c e = seen_is history c true e
+seen_here : (c : ℕ) (history : List ℕ) → seen (c ∷ history) c ≡ 1
+unfolding seen member choose
+seen_here c history = grind arith
 
 seen_no : (history : List ℕ) (c : ℕ) → member c history ≡ false → seen history c ≡ 0
-unfolding choose
-seen_no history c e = seen_is history c false e
+unfolding seen choose
+seen_no history c e = rw e
 
 seen_there : (history : List ℕ) (c x : ℕ) → (c ≡ x → ⊥) → seen (x ∷ history) c ≡ seen history c
 unfolding seen
 seen_there history c x h = rw (member_there c x history h)
 
 pub past_late : (history : List ℕ) (y : ℕ) → 8192 ≤ y → past history y ≡ seen history (y - 8192)
-unfolding past
-past_late history y h = sym (yes_le 8192 y _ _ _ h refl)
+unfolding past choose
+past_late history y h = grind arith
 
 pub past_early : (history : List ℕ) (y : ℕ) → y < 8192 → past history y ≡ 0
-unfolding past
-past_early history y h = sym (no_le 8192 y _ _ _ h refl)
+unfolding past choose
+past_early history y h = grind arith
 
 -- a place's bit says nothing of the counters not yet expected
 past_ahead : (history : List ℕ) (y : ℕ) → expected history + 8192 ≤ y → past history y ≡ 0
@@ -88,51 +79,24 @@ module _ (history words : List ℕ) (next : ℕ) (r : Represents history words n
       sym (bit_again words c) ∙ r.bits (8192 + c) (omega arith) (omega arith)
       ∙ past_late history (8192 + c) (omega arith) ∙ ap (seen history) (omega arith)
 
-  checks : c < next → next ≤ c + 8192 → (b : Bool) → member c history ≡ b → check_bit words c ≡ b
-  unfolding check_bit
-  checks l h true e = rw (bit_says l h, seen_yes history c e)
-  checks l h false e = rw (bit_says l h, seen_no history c e)
-
-  unless_ahead : is_invalid next c ≡ false → c < next → (b : Bool) → member c history ≡ b → will_accept words next c ≡ judged history c
-  unfolding will_accept judged
-  unless_ahead v k true e =
-      let long = r.long in
-      let set : check_bit words c ≡ true = checks k (valid_only next c v).1 true e in
-      let here : 10 ≡ will_accept words next c = search (picks) in
-      let there : 10 ≡ judged history c = rw (← r.expects) (search (picks)) in
-      sym here ∙ there
-  unless_ahead v k false e =
-      let long = r.long in
-      let clear : check_bit words c ≡ false = checks k (valid_only next c v).1 false e in
-      let here : 0 ≡ will_accept words next c = search (picks) in
-      let there : 0 ≡ judged history c = rw (← r.expects) (search (picks)) in
-      sym here ∙ there
-
-  same_verdict : (b : Bool) → is_invalid next c ≡ b → will_accept words next c ≡ judged history c
-  unfolding will_accept judged
-  same_verdict true v =
-      let long = r.long in
-      let here : 9 ≡ will_accept words next c = search (picks) in
-      let there : 9 ≡ judged history c = rw (← r.expects) (search (picks)) in
-      sym here ∙ there
-  same_verdict false v = elim (dec_le next c) [
-    | yes l ↦ (let long = r.long in
-        let unseen : member c history ≡ false = member_ahead c history (omega (arith, r.expects)) in
-        let here : 0 ≡ will_accept words next c = search (picks) in
-        let there : 0 ≡ judged history c = rw (← r.expects) (search (picks)) in
-        sym here ∙ there)
-    | no n ↦ unless_ahead v (omega arith) (member c history) refl
-  ]
+  checks : c < next → next ≤ c + 8192 → check_bit words c ≡ member c history
+  unfolding check_bit seen choose
+  checks l h = rw (bit_says l h) (grind arith)
 
   -- the window's verdict is the one that the history calls for
-  pub represents_verdict : will_accept words next c ≡ judged history c
-  represents_verdict = same_verdict (is_invalid next c) refl
+  pub represents_verdict : verdict_number (will_accept words next c) ≡ judged history c
+  unfolding will_accept judged is_invalid choose
+  represents_verdict =
+      let long = r.long in
+      let expects = r.expects in
+      let ahead : next ≤ c → member c history ≡ false = λ l. member_ahead c history (omega (arith, r.expects)) in
+      grind (arith, checks)
 
   module _ (y : ℕ) (after : c < y) where
     -- places of counters that are still expected
     ready_kept : next ≤ y → y < next + 8192 → bit_at (advance words next c) y ≡ past history y
     ready_kept l h = elim (dec_le c next) [
-      | yes m ↦ rw (← advance_none words next c m) (r.bits y l h)
+      | yes m ↦ rw (advance_none words next c m) (r.bits y l h)
       | no n ↦ rw (advance_near words next c (omega arith))
           (clears_miss words r.long next (c - next) y (omega arith) h ∙ r.bits y l h)
     ]
@@ -174,7 +138,7 @@ module _ (history words : List ℕ) (next : ℕ) (r : Represents history words n
       hit y e =
           let place : y - 8192 ≡ c = omega arith in
           set_hit (advance words next c) long_advance c y (omega arith)
-          ∙ sym (past_late (c ∷ history) y (omega arith) ∙ rw place (seen_yes (c ∷ history) c (member_here c history)))
+          ∙ sym (past_late (c ∷ history) y (omega arith) ∙ rw place (seen_here c history))
 
       other : (y : ℕ) → (y ≡ c + 8192 → ⊥) → max next (c + 1) ≤ y → y < max next (c + 1) + 8192 → y % 8192 ≡ c % 8192 → ⊥
       other y d l h e = d (omega arith)
@@ -194,40 +158,26 @@ module _ (history words : List ℕ) (next : ℕ) (r : Represents history words n
 -- a verdict of 0 exactly for a counter below LIMIT, at most 8,192 behind and not in the history
 module _ (history : List ℕ) (c : ℕ) where
   pub judged_zero : c < limit → expected history ≤ c + 8192 → member c history ≡ false → judged history c ≡ 0
-  unfolding judged
-  judged_zero l h e =
-      let v : is_invalid (expected history) c ≡ false = valid (expected history) c l h in
-      let there : 0 ≡ judged history c = search (picks) in
-      sym there
-
-  only_valid : judged history c ≡ 0 → (b : Bool) → is_invalid (expected history) c ≡ b → is_invalid (expected history) c ≡ false
-  unfolding judged
-  only_valid z false v = v
-  only_valid z true v = let nine : 9 ≡ judged history c = search (picks) in absurd (omega arith)
-
-  only_unseen : judged history c ≡ 0 → is_invalid (expected history) c ≡ false → (b : Bool) → member c history ≡ b → member c history ≡ false
-  unfolding judged
-  only_unseen z v false e = e
-  only_unseen z v true e = let ten : 10 ≡ judged history c = search (picks) in absurd (omega arith)
+  unfolding judged is_invalid choose
+  judged_zero l h e = grind arith
 
   pub judged_only : judged history c ≡ 0 → (c < limit) × (expected history ≤ c + 8192) × (member c history ≡ false)
-  judged_only z =
-      let v : is_invalid (expected history) c ≡ false = only_valid z (is_invalid (expected history) c) refl in
-      ((valid_only (expected history) c v).0, (valid_only (expected history) c v).1, only_unseen z v (member c history) refl)
+  unfolding judged is_invalid choose
+  judged_only z = grind arith
 
 -- a commit, or a refusal, leaves a window that stands for the history it should
 module _ (history words : List ℕ) (next : ℕ) (r : Represents history words next) (c : ℕ) where
-  same : will_accept words next c ≡ judged history c
+  same : verdict_number (will_accept words next c) ≡ judged history c
   same = represents_verdict history words next r c
 
   pub represents_commit : Represents (commit_to history c) (words_after words next c) (next_after words next c)
-  unfolding commit_to words_after next_after choose
+  unfolding commit_to choose
   represents_commit = go (eqb (judged history c) 0) refl
     where
       go : (b : Bool) → eqb (judged history c) 0 ≡ b → Represents (commit_to history c) (words_after words next c) (next_after words next c)
       go true e =
-          rw (same, e) (joins history words next r c (omega (arith, r.expects, (judged_only history c (eqb-true (judged history c) 0 e)).1)))
-      go false e = rw (same, e) r
+          rw (words_by_number, next_by_number, same, e) (joins history words next r c (omega (arith, r.expects, (judged_only history c (eqb-true (judged history c) 0 e)).1)))
+      go false e = rw (words_by_number, next_by_number, same, e) r
 
 -- a window grown from nothing stands for its committed counters
 pub represents_grown : (counters : List ℕ) → Represents (committed counters) (grown counters).words (grown counters).next

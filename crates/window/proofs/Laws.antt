@@ -2,11 +2,11 @@
 -- Assumes nothing.
 use Rattle.std.proofs.Common.{◌≡◌, ℕ, ◌+◌, ◌-◌, ◌<◌, ◌≤◌, false, eqb, List, [], sym, refl, ◌∙◌, arith}
 use Rattle.base.specs.Choice.{choose}
-use Rattle.base.proofs.Choice.{yes_eq, no_eq}
-use Rattle.window.specs.Window.{limit, skipped_by}
+use Rattle.window.specs.Window.{limit, will_accept, skipped_by}
 use Rattle.window.specs.History.{member, expected, judged, skipped_after, Skips, Represents, grown, verdict, skipped, committed, WindowLaw, JudgedLaw, StandingLaw}
 use Rattle.window.proofs.History.{judged_zero, judged_only, represents_verdict, represents_grown, represents_fresh, represents_commit}
 use Rattle.base.specs.Lists.{zeros}
+use Rattle.window.proofs.Verdict.{by_number}
 use Rattle.window.proofs.Counted.{represents_ones}
 
 -- zero words and next 0 stand for the empty history
@@ -15,12 +15,8 @@ fresh_law = represents_fresh
 
 -- a counter less the next expected one, where it is given verdict 0
 skips_by : (next c v : ℕ) → Skips next c v (choose (eqb v 0) (c - next) 0)
-skips_by next c v =
-    record {
-      ahead = λ z h. let e : choose (eqb v 0) (c - next) 0 ≡ c - next = sym (yes_eq v 0 (c - next) _ _ z refl) in omega (arith, e);
-      behind = λ z h. let e : choose (eqb v 0) (c - next) 0 ≡ c - next = sym (yes_eq v 0 (c - next) _ _ z refl) in omega (arith, e);
-      refused = λ n. sym (no_eq v 0 0 _ _ n refl);
-    }
+unfolding choose
+skips_by next c v = record { ahead = λ z h. grind arith; behind = λ z h. grind arith; refused = λ n. grind arith }
 
 -- which counters a history calls for a verdict of 0 on
 pub judged_law : (history : List ℕ) (c : ℕ) → JudgedLaw history c
@@ -32,7 +28,7 @@ pub standing_law : (history words : List ℕ) (next : ℕ) → Represents histor
 standing_law history words next r =
     record {
       judges = represents_verdict history words next r;
-      skips = λ c. unfold skipped_by skipped_after in rw (represents_verdict history words next r c, r.expects) refl;
+      skips = λ c. unfold skipped_by skipped_after in rw (by_number (will_accept words next c) 0 (c - next), represents_verdict history words next r c, r.expects) refl;
       stands = represents_commit history words next r;
       counts = represents_ones history words next r;
     }
@@ -45,7 +41,7 @@ window_law counters =
       judges = judge;
       commits = λ c l h e. judge c ∙ judged_zero (committed counters) c l (omega (arith, r.expects)) e;
       only = λ c z. limited c (judged_only (committed counters) c (sym (judge c) ∙ z));
-      skips = λ c. unfold skipped skipped_by in skips_by (grown counters).next c (verdict (grown counters) c);
+      skips = λ c. unfold skipped skipped_by in rw (by_number (will_accept (grown counters).words (grown counters).next c) 0 (c - (grown counters).next)) (skips_by (grown counters).next c (verdict (grown counters) c));
       expects = r.expects;
       counts = represents_ones (committed counters) (grown counters).words (grown counters).next r;
     }

@@ -3,4 +3,5 @@ pub mod History
 pub mod Laws
 pub mod Ready
 pub mod Steps
+pub mod Verdict
 pub mod Words

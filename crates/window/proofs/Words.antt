@@ -1,13 +1,17 @@
 -- What setting and clearing a counter's bit does to the bit of every counter, to the words' number and to their width.
 -- Assumes nothing.
-use Rattle.std.proofs.Common.{◌≡◌, ℕ, zero, suc, ◌+◌, ◌-◌, ◌/◌, ◌%◌, ◌^◌, ◌<◌, ◌≤◌, List, [], ◌∷◌, length, get_or, set, sym, refl, ap, ◌∙◌, lt_of_le_of_lt, add-zero, add_assoc, add-suc, arith, length-set, get_or-set_other, get_or-set_same, ext_get_or}
+use Rattle.std.proofs.Common.{◌≡◌, ℕ, zero, suc, ◌+◌, ◌-◌, ◌*◌, ◌/◌, ◌%◌, ◌^◌, ◌<◌, ◌≤◌, one-mul, shl_exact, List, [], ◌∷◌, length, get_or, set, sym, refl, ap, ◌∙◌, lt_of_le_of_lt, add-zero, add_assoc, add-suc, arith, length-set, get_or-set_other, get_or-set_same, ext_get_or}
 use native.Mathlib.Decide.{ℕ_discrete}
-use lib.Bits.{bit_and, bit_or, and_le_l, or_lt}
+use lib.Bits.{bit_and, bit_or, and_le_l, and_le_r, or_lt}
 use lib.Pow.{pow-lt}
 use Rattle.base.specs.Bits.{bit}
 use Rattle.base.proofs.Bits.{same_bits, bit_set_same, bit_set_other, bit_clear_same, bit_clear_other, bit_zero}
 use Rattle.base.proofs.Sums.{Fitting}
 use Rattle.window.specs.Window.{word_of, bit_of, bit_at, set_bit, clear_bit, clears}
+
+-- the machine's shift by a place of a word is the power of two
+pub shift : (b : ℕ) → b < 64 → (1 * 2 ^ b) % 2 ^ 64 ≡ 2 ^ b
+shift b h = shl_exact 1 b 64 (omega arith) (omega arith) ∙ one-mul (2 ^ b)
 
 -- what a word at a changed place does to the bit of each counter
 module _ (words : List ℕ) (long : length words ≡ 128) (c w : ℕ) where
@@ -131,6 +135,13 @@ clears_fits words from (suc count) f =
     let g : Fitting (clears words from count) = clears_fits words from count f in
     put_fits (clears words from count) (word_of (from + count)) _ g (lt_of_le_of_lt (and_le_l _ _) (g (word_of (from + count))))
 
+-- a counter's word fits once its bit is cleared
+clear_fits : (words : List ℕ) (c : ℕ) → length words ≡ 128 → get_or (clear_bit words c) (word_of c) 0 < 2 ^ 64
+unfolding clear_bit
+clear_fits words c long =
+    rw (get_or-set_same words (word_of c) (bit_and (get_or words (word_of c) 0) (2 ^ 64 - 1 - 2 ^ bit_of c)) 0 (omega arith))
+    (lt_of_le_of_lt (and_le_r _ _) (omega arith))
+
 -- a whole word cleared at once is its 64 counters cleared one by one
 module _ (words : List ℕ) (from : ℕ) (long : length words ≡ 128) (edge : from % 64 ≡ 0) where
   read : (words' : List ℕ) (place : ℕ) → place < 64 → bit_at words' (from + place) ≡ bit (get_or words' (word_of from) 0) place
@@ -140,18 +151,51 @@ module _ (words : List ℕ) (from : ℕ) (long : length words ≡ 128) (edge : f
       let there : bit_of (from + place) ≡ place = omega arith in
       rw (here, there)
 
-  word_gone : Fitting words → get_or (clears words from 64) (word_of from) 0 ≡ 0
-  word_gone f =
-      same_bits 64 (get_or (clears words from 64) (word_of from) 0) 0 (clears_fits words from 64 f (word_of from)) (omega arith)
+  gone_fits : get_or (clears words from 64) (word_of from) 0 < 2 ^ 64
+  unfolding clears
+  gone_fits =
+      let place : word_of from ≡ word_of (from + 63) = omega arith in
+      rw place (clear_fits (clears words from 63) (from + 63) (length_clears words from 63 ∙ long))
+
+  word_gone : get_or (clears words from 64) (word_of from) 0 ≡ 0
+  word_gone =
+      same_bits 64 (get_or (clears words from 64) (word_of from) 0) 0 gone_fits (omega arith)
       (λ place h.
       sym (read (clears words from 64) place h)
       ∙ clears_hit words long from 64 (from + place) (omega arith) (omega arith) (omega arith) ∙ sym (bit_zero place))
 
-  pub whole_word : Fitting words → set words (word_of from) 0 ≡ clears words from 64
-  whole_word f = ext_get_or 0 (set words (word_of from) 0) (clears words from 64) (length-set words (word_of from) 0 ∙ sym (length_clears words from 64)) at
+  whole_word : set words (word_of from) 0 ≡ clears words from 64
+  whole_word = ext_get_or 0 (set words (word_of from) 0) (clears words from 64) (length-set words (word_of from) 0 ∙ sym (length_clears words from 64)) at
     where
       at : (j : ℕ) → j < length (set words (word_of from) 0) → get_or (set words (word_of from) 0) j 0 ≡ get_or (clears words from 64) j 0
       at j l = elim (ℕ_discrete j (word_of from)) [
-        | yes e ↦ rw e (get_or-set_same words (word_of from) 0 0 (omega arith) ∙ sym (word_gone f))
+        | yes e ↦ rw e (get_or-set_same words (word_of from) 0 0 (omega arith) ∙ sym word_gone)
         | no d ↦ get_or-set_other words (word_of from) j 0 0 d ∙ sym (clears_elsewhere words from 64 j edge (omega arith) d)
       ]
+
+-- a run of counters, cleared so far up to a place, and one further: no counter, a counter more, and a word more
+module _ (words : List ℕ) where
+  pub clears_none : (from count : ℕ) → count ≡ 0 → words ≡ clears words from count
+  unfolding clears
+  clears_none from count e = rw e
+
+  -- the run up to a place, and from there on
+  pub clears_on : (from i to : ℕ) → from ≤ i → i ≤ to → clears (clears words from (i - from)) i (to - i) ≡ clears words from (to - from)
+  clears_on from i to h m =
+      let place : from + (i - from) ≡ i = omega arith in
+      let all : i - from + (to - i) ≡ to - from = omega arith in
+      ap (λ (x : ℕ). clears (clears words from (i - from)) x (to - i)) (sym place) ∙ clears_add words from (i - from) (to - i) ∙ ap (clears words from) all
+
+  pub clears_bit : (from i : ℕ) → from ≤ i → clear_bit (clears words from (i - from)) i ≡ clears words from (i + 1 - from)
+  unfolding clears
+  clears_bit from i h =
+      let place : i ≡ from + (i - from) = omega arith in
+      let more : i + 1 - from ≡ suc (i - from) = omega arith in
+      rw more (ap (clear_bit (clears words from (i - from))) place)
+
+  pub clears_word : (from i : ℕ) → length words ≡ 128 → from ≤ i → i % 64 ≡ 0
+      → set (clears words from (i - from)) (word_of i) 0 ≡ clears words from (i + 64 - from)
+  clears_word from i long h edge =
+      let size : 64 ≡ i + 64 - i = omega arith in
+      whole_word (clears words from (i - from)) i (length_clears words from (i - from) ∙ long) edge
+      ∙ ap (clears (clears words from (i - from)) i) size ∙ clears_on from i (i + 64) h (omega arith)

@@ -3,6 +3,7 @@ use Rattle.std.specs.Prelude.{◌≡◌, ℕ, ◌+◌, ◌-◌, ◌^◌, ◌<◌
 use Rattle.base.specs.Choice.{choose}
 use Rattle.base.specs.Lists.{zeros, ones_of}
 use Rattle.base.specs.Sums.{sum}
+use Rattle.error.specs.Error.{verdict_number}
 use Rattle.window.specs.Window.{bit_at, is_invalid, will_accept, next_after, words_after, skipped_by}
 
 -- whether a counter is in a history
@@ -66,7 +67,7 @@ pub record JudgedLaw (history : List ℕ) (counter : ℕ) : Type 0 where
 -- What words and a next expected counter that stand for a history do:
 pub record StandingLaw (history words : List ℕ) (next : ℕ) : Type 0 where
   -- the verdict on a counter is the one that the history calls for
-  pub judges : (counter : ℕ) → will_accept words next counter ≡ judged history counter
+  pub judges : (counter : ℕ) → verdict_number (will_accept words next counter) ≡ judged history counter
   -- a commit skips as many counters as the history calls for
   pub skips : (counter : ℕ) → skipped_by words next counter ≡ skipped_after history counter
   -- after a commit they stand for the history with the counter, and after a refusal for the history as it was
@@ -83,9 +84,9 @@ pub record Window : Type 0 where
 unfoldable pub fresh : Window
 fresh = record { words = zeros 128; next = 0 }
 
--- the verdict of a window on a counter
+-- the number of the verdict of a window on a counter
 unfoldable pub verdict : Window → ℕ → ℕ
-verdict window counter = will_accept window.words window.next counter
+verdict window counter = verdict_number (will_accept window.words window.next counter)
 
 -- how many counters a window says that one skips
 unfoldable pub skipped : Window → ℕ → ℕ

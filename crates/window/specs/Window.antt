@@ -1,8 +1,10 @@
 -- The anti-replay window of src/replay.rs as the plain rule: 128 words of 64 bits hold one bit for each of the 8,192 counters below `next`.
-use Rattle.std.specs.Prelude.{◌≡◌, ℕ, zero, suc, ◌+◌, ◌-◌, ◌/◌, ◌%◌, ◌^◌, ◌≤◌, max, Bool, true, List, length, ◌==◌, bit_and, bit_or, nat_le, nat_lt, slice_index, slice_set}
+use Rattle.std.specs.Prelude.{◌≡◌, ℕ, zero, suc, ◌+◌, ◌-◌, ◌/◌, ◌%◌, ◌^◌, max, Bool, true, List, length, ◌==◌, bit_and, bit_or, nat_le, nat_lt, slice_index, slice_set, Result, Ok, Err}
 use Rattle.base.specs.Bits.{bit}
-use Rattle.base.specs.Choice.{choose}
+use Rattle.base.specs.Choice.{choose, case_result}
 use Rattle.base.specs.Lists.{zeros}
+use Rattle.error.specs.declared.Error.{Error}
+use Rattle.error.specs.declared.Error.TheVariants.{InvalidArgument, InvalidCounter, DuplicateCounter}
 use Rattle.window.specs.declared.Marked.{Marked}
 
 -- LIMIT, the Rust's REJECT_AFTER_MESSAGES
@@ -46,24 +48,24 @@ advance words next counter = choose (nat_le 8192 (counter - next)) (zeros 128) (
 unfoldable pub is_invalid : ℕ → ℕ → Bool
 is_invalid next counter = choose (nat_le limit counter) true (nat_lt (counter + 8192) next)
 
--- the verdict on a counter: 9 where it is invalid, 10 where it is behind `next` and its bit is set, else 0; 2 where the words are not 128
-unfoldable pub will_accept : List ℕ → ℕ → ℕ → ℕ
+-- the verdict on a counter: invalid, a duplicate where it is behind `next` and its bit is set, else good; an argument is invalid where the words are not 128
+unfoldable pub will_accept : List ℕ → ℕ → ℕ → Result Unit Error
 will_accept words next counter =
     choose (length words == 128)
-    (choose (is_invalid next counter) 9 (choose (nat_le next counter) 0 (choose (check_bit words counter) 10 0)))
-    2
+    (choose (is_invalid next counter) (Err InvalidCounter) (choose (nat_le next counter) (Ok tt) (choose (check_bit words counter) (Err DuplicateCounter) (Ok tt))))
+    (Err InvalidArgument)
 
 -- the next expected counter after a commit
 unfoldable pub next_after : List ℕ → ℕ → ℕ → ℕ
-next_after words next counter = choose (will_accept words next counter == 0) (max next (counter + 1)) next
+next_after words next counter = case_result (will_accept words next counter) (λ error. next) (λ good. max next (counter + 1))
 
 -- the words after a commit
 unfoldable pub words_after : List ℕ → ℕ → ℕ → List ℕ
-words_after words next counter = choose (will_accept words next counter == 0) (set_bit (advance words next counter) counter) words
+words_after words next counter = case_result (will_accept words next counter) (λ error. words) (λ good. set_bit (advance words next counter) counter)
 
 -- how many counters a commit skips: the counter less `next`, which leaves 0 where it is not ahead; none where it is turned down
 unfoldable pub skipped_by : List ℕ → ℕ → ℕ → ℕ
-skipped_by words next counter = choose (will_accept words next counter == 0) (counter - next) 0
+skipped_by words next counter = case_result (will_accept words next counter) (λ error. 0) (λ good. counter - next)
 
 -- what committing a counter answers
 unfoldable pub mark_did_receive : List ℕ → ℕ → ℕ → Marked
@@ -74,9 +76,3 @@ mark_did_receive words next counter =
 pub record Marks (words last : List ℕ) (next counter : ℕ) (answer : Marked) : Type 0 where
   pub out : answer ≡ mark_did_receive words next counter
   pub left : last ≡ words_after words next counter
-
--- whole words cleared from `from` on, up to a place before `to`
-pub record ClearedWords (words last : List ℕ) (from to stop : ℕ) : Type 0 where
-  pub onward : from ≤ stop
-  pub within : stop ≤ to
-  pub left : last ≡ clears words from (stop - from)

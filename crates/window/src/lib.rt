@@ -2,31 +2,32 @@
 // The caller keeps `next`, one past the highest committed counter.
 #![tactic(auto)]
 
-ghost use Rattle.std.specs.Prelude.{◌≡◌, ℕ, ◌+◌, ◌-◌, ◌*◌, ◌/◌, ◌%◌, ◌^◌, ◌<◌, ◌≤◌, List, [], length};
+ghost use Rattle.std.specs.Prelude.{◌≡◌, ℕ, ◌+◌, ◌-◌, ◌*◌, ◌/◌, ◌%◌, ◌^◌, ◌<◌, ◌≤◌, List, [], Ok, Err};
 ghost use Rattle.base.specs.Lists.{zeros};
 ghost use Rattle.window.specs.History.{Represents, JudgedLaw, StandingLaw, WindowLaw};
-ghost use Rattle.window.specs.Window.{set_bit, clear_bit, check_bit, clears, advance, is_invalid, will_accept, Marks, ClearedWords};
+ghost use Rattle.window.specs.Window.{limit, set_bit, clear_bit, check_bit, clears, advance, is_invalid, will_accept, Marks};
+
+use error::Error;
 
 // The exclusive limit of counters, which leaves room for the window's arithmetic.
-pub const REJECT_AFTER_MESSAGES: u64 = 18446744073709543423;
+pub const REJECT_AFTER_MESSAGES: u64 = u64::MAX - N_BITS;
 
 // The bits of a word.
 const WORD_SIZE: u64 = 64;
 
 // The exponent of two that gives `WORD_SIZE`.
-const WORD_SHIFT: u64 = 6;
+const WORD_SHIFT: u32 = u64::trailing_zeros(WORD_SIZE);
 
 // The words of a window.
 const N_WORDS: usize = 128;
 
 // The counters that a window spans.
-const N_BITS: u64 = 8192;
+const N_BITS: u64 = WORD_SIZE * N_WORDS as u64;
 
-// What committing a counter answers: its verdict (0, 9 or 10; 2 where the words are not 128), the next expected counter, and how many
-// counters it skipped.
+// What committing a counter answers: its verdict, the next expected counter, and how many counters it skipped.
 #[derive(Clone, Copy)]
 pub struct Marked {
-    pub verdict: u8,
+    pub verdict: Result<(), Error>,
     pub next: u64,
     pub skipped: u64,
 }
@@ -35,7 +36,7 @@ pub struct Marked {
 fn word_of(counter: u64) -> usize
     ensures { result ≡ counter % 8192 / 64 }
 {
-    ((counter >> WORD_SHIFT) as usize) & (N_WORDS - 1)
+    (counter >> WORD_SHIFT) as usize & (N_WORDS - 1)
 }
 
 // The place of the bit of `counter` in its word.
@@ -45,185 +46,172 @@ fn bit_of(counter: u64) -> u64
     counter & (WORD_SIZE - 1)
 }
 
-// Sets the bit of `counter`.
-fn set_bit(words: &mut [u64], counter: u64)
-    requires { length words.old ≡ 128 }
-    ensures { words.new ≡ set_bit words.old counter }
+// The first counter of the word that holds the bit of `counter`.
+fn word_start(counter: u64) -> u64
+    ensures { result ≡ counter / 64 * 64 }
 {
-    let word = word_of(counter);
-    let bit = bit_of(counter);
-    words[word] = words[word] | (1 << bit);
-}
-
-// Clears the bit of `counter`.
-fn clear_bit(words: &mut [u64], counter: u64)
-    requires { length words.old ≡ 128 }
-    ensures { words.new ≡ clear_bit words.old counter }
-{
-    let word = word_of(counter);
-    let bit = bit_of(counter);
-    words[word] = words[word] & !(1 << bit);
-}
-
-// Clears the word that holds the bit of `counter`, which is the word's first.
-fn clear_word(words: &mut [u64], counter: u64)
-    requires { (length words.old ≡ 128) × (counter % 64 ≡ 0) }
-    ensures { words.new ≡ clears words.old counter 64 }
-{
-    let word = word_of(counter);
-    words[word] = 0;
-}
-
-// Whether the bit of `counter` is set.
-fn check_bit(words: &[u64], counter: u64) -> bool
-    requires { length words.now ≡ 128 }
-    ensures { result ≡ check_bit words.now counter }
-{
-    let word = word_of(counter);
-    let bit = bit_of(counter);
-    (words[word] >> bit) & 1 == 1
-}
-
-// Clears the bits of the counters from `from` up to `to`, one by one.
-fn clear_bits(words: &mut [u64], from: u64, to: u64)
-    requires { (length words.old ≡ 128) × (from ≤ to) }
-    ensures { words.new ≡ clears words.old from (to - from) }
-{
-    let mut i = from;
-    while i < to {
-        clear_bit(words, i);
-        i = i + 1;
-    }
-}
-
-// Clears whole words from `from`, a word's first counter, while more than a word is left before `to`; answers where it stopped.
-fn clear_words(words: &mut [u64], from: u64, to: u64) -> u64
-    requires { (length words.old ≡ 128) × (from ≤ to) × (from % 64 ≡ 0) × (to < 18446744073709543423) }
-    ensures { ClearedWords words.old words.new from to result }
-{
-    let mut i = from;
-    while i + WORD_SIZE < to {
-        clear_word(words, i);
-        i = i + WORD_SIZE;
-    }
-    i
+    counter >> WORD_SHIFT << WORD_SHIFT
 }
 
 // The first counter at or after `from` that begins a word; 0 where it would be 2^64.
 fn word_edge(from: u64) -> u64
     ensures { result ≡ (from + 63) / 64 * 64 % 2 ^ 64 }
 {
-    let last = std::num::wrapping_add_u64(from, WORD_SIZE - 1);
-    (last >> WORD_SHIFT) << WORD_SHIFT
+    word_start(from.wrapping_add(WORD_SIZE - 1))
 }
 
-// Clears every word.
-fn clear_all(words: &mut [u64])
-    requires { length words.old ≡ 128 }
-    ensures { words.new ≡ zeros 128 }
+// Sets the bit of `counter`.
+#[tactic(auto, using(crate::proofs::Words::shift), unfolding(crate::specs::Window::set_bit))]
+fn set_bit(words: &mut [u64; N_WORDS], counter: u64)
+    ensures { words.new ≡ set_bit words.old counter }
 {
-    let mut k = 0;
-    while k < words.len() {
-        words[k] = 0;
-        k = k + 1;
+    words[word_of(counter)] |= 1 << bit_of(counter);
+}
+
+// Clears the bit of `counter`.
+#[tactic(auto, using(crate::proofs::Words::shift), unfolding(crate::specs::Window::clear_bit))]
+fn clear_bit(words: &mut [u64; N_WORDS], counter: u64)
+    ensures { words.new ≡ clear_bit words.old counter }
+{
+    words[word_of(counter)] &= !(1 << bit_of(counter));
+}
+
+// Whether the bit of `counter` is set.
+#[tactic(auto, unfolding(crate::specs::Window::check_bit, crate::specs::Window::bit_at, base::specs::Bits::bit))]
+fn check_bit(words: &[u64; N_WORDS], counter: u64) -> bool
+    ensures { result ≡ check_bit words.now counter }
+{
+    (words[word_of(counter)] >> bit_of(counter)) & 1 == 1
+}
+
+// Clears the bits of the counters from `from` up to `to`, one by one.
+#[tactic(auto, using(crate::proofs::Words::clears_none, crate::proofs::Words::clears_bit))]
+fn clear_bits(words: &mut [u64; N_WORDS], from: u64, to: u64)
+    ensures { words.new ≡ clears words.old from (to - from) }
+{
+    for counter in from..to {
+        clear_bit(words, counter);
+    }
+}
+
+// Clears whole words: the bits of the counters from `from` up to `to`, which both begin a word.
+#[tactic(auto, using(crate::proofs::Words::clears_none, crate::proofs::Words::clears_word))]
+fn clear_words(words: &mut [u64; N_WORDS], from: u64, to: u64)
+    requires { (from % 64 ≡ 0) × (to % 64 ≡ 0) }
+    ensures { words.new ≡ clears words.old from (to - from) }
+{
+    for counter in (from..to).step_by(WORD_SIZE as usize) {
+        words[word_of(counter)] = 0;
     }
 }
 
 // Clears the counters that `counter` skips, so that a reused place of the bitmap does not look like a replay.
-fn clear_skipped(words: &mut [u64], next: u64, counter: u64)
-    requires { (length words.old ≡ 128) × (next ≤ counter) × (counter < 18446744073709543423) }
+#[tactic(auto, using(crate::proofs::Ready::advance_near, crate::proofs::Ready::advance_far, crate::proofs::Words::clears_on), unfolding(base::specs::Lists::zeros))]
+fn clear_skipped(words: &mut [u64; N_WORDS], next: u64, counter: u64)
+    requires { (next ≤ counter) × (counter < limit) }
     ensures { words.new ≡ advance words.old next counter }
 {
     if counter - next >= N_BITS {
-        clear_all(words);
+        words.fill(0);
         return;
     }
     let edge = word_edge(next);
-    if counter <= edge {
+    let last = word_start(counter);
+    if last < edge {
         clear_bits(words, next, counter);
         return;
     }
     clear_bits(words, next, edge);
-    let rest = clear_words(words, edge, counter);
-    clear_bits(words, rest, counter);
+    clear_words(words, edge, last);
+    clear_bits(words, last, counter);
 }
 
 // Whether `counter` is at or above the limit, or more than 8,192 behind `next`.
+#[tactic(auto, unfolding(crate::specs::Window::is_invalid, base::specs::Choice::choose))]
 fn is_invalid(next: u64, counter: u64) -> bool
     ensures { result ≡ is_invalid next counter }
 {
-    if counter >= REJECT_AFTER_MESSAGES {
-        return true;
-    }
-    counter + N_BITS < next
+    counter >= REJECT_AFTER_MESSAGES || counter + N_BITS < next
 }
 
-// Whether `counter` is unseen and within the allowed range: 0, 9 or 10; 2 where the words are not 128.
-pub fn will_accept(words: &[u64], next: u64, counter: u64) -> u8
+// Whether `counter` is unseen and within the allowed range: invalid or a duplicate if not.
+#[tactic(auto, unfolding(crate::specs::Window::will_accept, base::specs::Choice::choose))]
+fn judge(words: &[u64; N_WORDS], next: u64, counter: u64) -> Result<(), Error>
     ensures { result ≡ will_accept words.now next counter }
 {
-    if words.len() != N_WORDS {
-        return 2;
-    }
     if is_invalid(next, counter) {
-        return 9;
+        return Err(Error::InvalidCounter);
     }
-    if counter >= next {
-        return 0;
+    if counter < next && check_bit(words, counter) {
+        return Err(Error::DuplicateCounter);
     }
-    if check_bit(words, counter) {
-        return 10;
-    }
-    0
+    Ok(())
 }
 
-// Checks `counter` against the window once more and marks it as received.
-pub fn mark_did_receive(words: &mut [u64], next: u64, counter: u64) -> Marked
+// Whether `counter` is unseen and within the allowed range; an argument is invalid where the words are not 128.
+#[tactic(auto, unfolding(crate::specs::Window::will_accept, base::specs::Choice::choose))]
+pub fn will_accept(words: &[u64], next: u64, counter: u64) -> Result<(), Error>
+    ensures { result ≡ will_accept words.now next counter }
+{
+    match words.as_array() {
+        Some(words) => judge(words, next, counter),
+        None => Err(Error::InvalidArgument),
+    }
+}
+
+// What a counter that is turned down is answered.
+fn refused(error: Error, next: u64) -> Marked
+    ensures { result ≡ record { verdict = Err error; next = next; skipped = 0 } }
+{
+    Marked {
+        verdict: Err(error),
+        next,
+        skipped: 0,
+    }
+}
+
+// What a counter that is committed is answered.
+fn taken(next: u64, skipped: u64) -> Marked
+    ensures { result ≡ record { verdict = Ok tt; next = next; skipped = skipped } }
+{
+    Marked {
+        verdict: Ok(()),
+        next,
+        skipped,
+    }
+}
+
+// Checks `counter` once more and marks it as received.
+#[tactic(auto, using(crate::proofs::Ready::valid_only))]
+fn commit(words: &mut [u64; N_WORDS], next: u64, counter: u64) -> Marked
     ensures { Marks words.old words.new next counter result }
 {
-    if words.len() != N_WORDS {
-        return Marked {
-            verdict: 2,
-            next,
-            skipped: 0,
-        };
-    }
     if is_invalid(next, counter) {
-        return Marked {
-            verdict: 9,
-            next,
-            skipped: 0,
-        };
+        return refused(Error::InvalidCounter, next);
     }
     if counter == next {
         set_bit(words, counter);
-        return Marked {
-            verdict: 0,
-            next: next + 1,
-            skipped: 0,
-        };
+        return taken(next + 1, 0);
     }
     if counter < next {
         if check_bit(words, counter) {
-            return Marked {
-                verdict: 10,
-                next,
-                skipped: 0,
-            };
+            return refused(Error::DuplicateCounter, next);
         }
         set_bit(words, counter);
-        return Marked {
-            verdict: 0,
-            next,
-            skipped: 0,
-        };
+        return taken(next, 0);
     }
     clear_skipped(words, next, counter);
     set_bit(words, counter);
-    Marked {
-        verdict: 0,
-        next: counter + 1,
-        skipped: counter - next,
+    taken(counter + 1, counter - next)
+}
+
+// Checks `counter` against the window once more and marks it as received; an argument is invalid where the words are not 128.
+pub fn mark_did_receive(words: &mut [u64], next: u64, counter: u64) -> Marked
+    ensures { Marks words.old words.new next counter result }
+{
+    match words.as_mut_array() {
+        Some(words) => commit(words, next, counter),
+        None => refused(Error::InvalidArgument, next),
     }
 }
 
@@ -242,7 +230,7 @@ pub fn standing_law()
     ensures { (history words : List ℕ) (next : ℕ) → Represents history words next → StandingLaw history words next }
 {}
 
-// Which counters a history calls for a verdict of 0 on.
+// Which counters a history calls for a good verdict on.
 pub fn judged_law()
     ensures { (history : List ℕ) (counter : ℕ) → JudgedLaw history counter }
 {}

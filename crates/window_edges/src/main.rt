@@ -5,127 +5,90 @@
 ghost use Rattle.std.specs.Io.KnownBytes.{Consumes, IsAtEnd};
 ghost use Rattle.std.specs.Prelude.{ℕ, ◌<◌, ◌≤◌, IfOk, OnErr, length, take};
 
+use error::verdict_number;
 use std::io;
 use std::io::{Read, Write};
 
-// The line read so far: its first letter and its number.
+// What a line asks for.
 #[derive(Clone, Copy)]
-struct Line {
-    first: u8,
-    number: u64,
-}
-
-// The line before any of its bytes.
-fn fresh_line() -> Line {
-    Line {
-        first: 0,
-        number: 0,
-    }
+enum Command {
+    Reset,
+    Look(u64),
+    Commit(u64),
 }
 
 // A number with one digit more; one too large for 64 bits becomes the greatest.
-fn with_digit(number: u64, digit: u64) -> u64 {
-    if digit > 9 {
-        return number;
-    }
-    if number > (18446744073709551615 - digit) / 10 {
-        return 18446744073709551615;
-    }
-    number * 10 + digit
+fn with_digit(number: u64, digit: u32) -> u64 {
+    number.saturating_mul(10).saturating_add(u64::from(digit))
 }
 
-impl Line {
-    // The line with one byte more.
-    fn with_byte(self, byte: u8) -> Line {
-        if byte >= b'0' {
-            if byte <= b'9' {
-                return Line {
-                    number: with_digit(self.number, (byte - b'0') as u64),
-                    ..self
-                };
+impl Command {
+    // What a line says: its first byte that is neither a digit nor zero, and its digits as one number.
+    fn read(line: &[u8]) -> Command {
+        let number = line
+            .iter()
+            .filter_map(|byte| char::from(*byte).to_digit(10))
+            .fold(0, with_digit);
+        let letter = line.iter().find(|byte| !matches!(**byte, 0 | b'0'..=b'9'));
+        match letter {
+            Some(b'c') => Command::Commit(number),
+            Some(b'l') => Command::Look(number),
+            _ => Command::Reset,
+        }
+    }
+}
+
+// The window: its words, and the next expected counter.
+#[derive(Drop)]
+struct Window {
+    words: [u64; 128],
+    next: u64,
+}
+
+impl Window {
+    // The number of set bits.
+    fn count_ones(&self) -> u32 {
+        let mut ones = 0;
+        for word in &self.words {
+            ones += word.count_ones();
+        }
+        ones
+    }
+
+    // Carries out a command and writes its answer.
+    fn answer<W: Write>(&mut self, out: &mut W, command: Command) -> io::Result<()> {
+        match command {
+            Command::Reset => {
+                self.words.fill(0);
+                self.next = 0;
+                writeln!(out, "ok")
+            }
+            Command::Look(counter) => {
+                let verdict = window::will_accept(&self.words, self.next, counter);
+                let number = verdict_number(verdict);
+                writeln!(out, "{number}")
+            }
+            Command::Commit(counter) => {
+                let marked = window::mark_did_receive(&mut self.words, self.next, counter);
+                self.next = marked.next;
+                let number = verdict_number(marked.verdict);
+                let ones = self.count_ones();
+                writeln!(out, "{number} {} {ones} {}", marked.next, marked.skipped)
             }
         }
-        if self.first == 0 {
-            return Line {
-                first: byte,
-                ..self
-            };
-        }
-        self
     }
 }
 
-// A count with the set bits of a word more; it goes no further than a million.
-fn with_ones(count: u64, word: u64) -> u64 {
-    if count > 1000000 {
-        return count;
-    }
-    count + u64::count_ones(word) as u64
-}
-
-// The number of set bits.
-fn count_ones(words: &[u64]) -> u64 {
-    let mut count = 0;
-    let mut i = 0;
-    while i < words.len() {
-        count = with_ones(count, words[i]);
-        i = i + 1;
-    }
-    count
-}
-
-// Clears every word.
-fn reset(words: &mut [u64]) {
-    let mut i = 0;
-    while i < words.len() {
-        words[i] = 0;
-        i = i + 1;
-    }
-}
-
-// Commits a counter, writes what that answers, and answers the next expected counter.
-fn commit<W: Write>(out: &mut W, words: &mut [u64], next: u64, counter: u64) -> io::Result<u64> {
-    let marked = window::mark_did_receive(words, next, counter);
-    let verdict = marked.verdict;
-    let after = marked.next;
-    let ones = count_ones(words);
-    let skipped = marked.skipped;
-    write!(out, "{verdict} {after} {ones} {skipped}")?;
-    Ok(after)
-}
-
-// Carries out a line, writes its answer, and answers the next expected counter.
-fn answer<W: Write>(out: &mut W, words: &mut [u64], next: u64, line: Line) -> io::Result<u64> {
-    if line.first == b'c' {
-        let after = commit(out, words, next, line.number)?;
-        out.write_all(b"\n")?;
-        return Ok(after);
-    }
-    if line.first == b'l' {
-        let verdict = window::will_accept(words, next, line.number);
-        write!(out, "{verdict}")?;
-        out.write_all(b"\n")?;
-        return Ok(next);
-    }
-    reset(words);
-    out.write_all(b"ok\n")?;
-    Ok(0)
-}
-
-// Carries out every line of the input.
+// Carries out every line of the input that a newline ends.
 fn replay<W: Write>(out: &mut W, input: &[u8]) -> io::Result<()> {
-    let mut words = [0u64; 128];
-    let mut next = 0;
-    let mut line = fresh_line();
-    let mut i = 0;
-    while i < input.len() {
-        if input[i] == b'\n' {
-            next = answer(out, &mut words, next, line)?;
-            line = fresh_line();
-        } else {
-            line = line.with_byte(input[i]);
+    let mut window = Window {
+        words: [0; 128],
+        next: 0,
+    };
+    for line in input.split_inclusive(|byte| *byte == b'\n') {
+        if let Some(line) = line.strip_suffix(b"\n") {
+            window.answer(out, Command::read(line))?;
         }
-        i = i + 1;
     }
     Ok(())
 }

@@ -1,34 +1,20 @@
-use borrow.Author.Rules.{rules}
-use mathlib.Core.Bool.{not}
-use mathlib.Core.Path.{ap}
-use Rattle.base.proofs.Choice.{picks}
-use Rattle.callout_log.proofs.Appending.{failed, passed, store_within, store_small, lists_beside, not_appended, same_answer}
-use Rattle.callout_log.specs.Append.{append_answer, append_log}
+use native.Mathlib.Omega.{arith}
+use Rattle.callout_log.specs.Append.{reported}
+use Rattle.callout_log.proofs.Appending.{append_good, lists_beside, store_small, store_within}
 use Rattle.callout_log.proofs.append.append.Goals as goal
 
-pub returns-then-not-are_times : goal.returns-then-not-are_times
-unfolding append_log append_answer
-returns-then-not-are_times c = search (not_appended, picks, failed, rules)
+pub overflow_sub-free : goal.overflow_sub-free
+overflow_sub-free c = store_within _ _ c.if-not-is_store.ensures
 
-pub returns-then-not-is_store : goal.returns-then-not-is_store
-unfolding append_log append_answer
-returns-then-not-is_store c = search (not_appended, picks, failed, passed, rules)
+pub write_records-requires-clause-one : goal.write_records-requires-clause-one
+write_records-requires-clause-one c = lists_beside _ _ _ c.if-not-are_times.ensures c.if-not-is_store.ensures c.if-not-are_beside.ensures
 
-pub returns-then-not-are_beside : goal.returns-then-not-are_beside
-unfolding append_log append_answer
-returns-then-not-are_beside c = search (not_appended, picks, failed, passed, rules)
-
-pub returns-then-not-are_verdicts : goal.returns-then-not-are_verdicts
-unfolding append_log append_answer
-returns-then-not-are_verdicts c = search (not_appended, picks, failed, passed, rules)
-
-pub append_callout-requires : goal.append_callout-requires
-append_callout-requires c = (
-  lists_beside _ (ap not c.if-not-are_beside.false) _ c.are_beside.ensures,
-  store_within _ (ap not c.if-not-is_store.false) _ _ c.is_store.ensures,
-  store_small _ (ap not c.if-not-is_store.false) _ _ c.is_store.ensures,
-)
+pub overflow_cast-count : goal.overflow_cast-count
+overflow_cast-count c = omega (arith, store_small _ _ c.if-not-is_store.ensures, c.if-count-free.false)
 
 pub returns : goal.returns
-unfolding append_log append_answer
-returns c = search (same_answer, picks, passed, rules)
+returns c =
+    append_good _ _ (reported c.args.reports) c.if-not-are_times.ensures c.if-not-is_store.ensures c.if-not-are_beside.ensures c.if-not-are_verdicts.ensures _ _
+    (omega (arith, store_within _ _ c.if-not-is_store.ensures, c.if-free-lt-TRAILER_SZ.false, c.if-count-free.false))
+    c.write_records.ensures
+    c.write_trailer.ensures

@@ -1,15 +1,12 @@
-use borrow.Author.Rules.{rules}
-use Rattle.callout_log.proofs.Checks.{test_begins, test_fails, test_ends, time_more, time_late}
+use Rattle.std.proofs.Common.{◌∙◌, rules, tests}
+use Rattle.std.proofs.lemmas.Iterator.{YieldsList-from_slice}
+use Rattle.std.proofs.lemmas.Iterator.Search.{all_from_yields_List}
+use Rattle.callout_log.specs.Record.{is_time}
+use Rattle.callout_log.proofs.Checks.{all_every}
 use Rattle.callout_log.proofs.append.are_times.Goals as goal
 
-pub loop-i-init : goal.loop-i-init
-loop-i-init c = search (test_begins, rules)
-
-pub returns-then-times-i-gt-TIME_LIMIT : goal.returns-then-times-i-gt-TIME_LIMIT
-returns-then-times-i-gt-TIME_LIMIT c = search (test_fails, time_late, rules)
-
-pub loop-i-preserved : goal.loop-i-preserved
-loop-i-preserved c = search (time_more, rules)
-
 pub returns : goal.returns
-returns c = search (test_ends, rules)
+unfolding is_time
+returns c =
+    all_from_yields_List is_time _ _ c.all.result c.all.ensures.ran (YieldsList-from_slice c.args.times.now cc) (λ x b q k. search (rules, tests))
+    ∙ all_every is_time c.args.times.now

@@ -1,15 +1,11 @@
-use borrow.Author.Rules.{rules}
-use Rattle.callout_log.proofs.Checks.{test_begins, test_more, test_fails, test_ends}
+use Rattle.std.proofs.Common.{◌∙◌, rules, tests}
+use Rattle.std.proofs.lemmas.Iterator.{YieldsList-from_slice}
+use Rattle.std.proofs.lemmas.Iterator.Search.{all_from_yields_List}
+use Rattle.callout_log.specs.Record.{is_verdict}
+use Rattle.callout_log.proofs.Checks.{all_every}
 use Rattle.callout_log.proofs.append.are_verdicts.Goals as goal
 
-pub loop-i-init : goal.loop-i-init
-loop-i-init c = search (test_begins, rules)
-
-pub loop-i-preserved : goal.loop-i-preserved
-loop-i-preserved c = search (test_more, rules)
-
-pub returns-else-is_verdict : goal.returns-else-is_verdict
-returns-else-is_verdict c = search (test_fails, rules)
-
 pub returns : goal.returns
-returns c = search (test_ends, rules)
+returns c =
+    all_from_yields_List is_verdict _ _ c.all.result c.all.ensures.ran (YieldsList-from_slice c.args.verdicts.now cc) (λ x b q k. search (rules, tests))
+    ∙ all_every is_verdict c.args.verdicts.now

@@ -1,14 +1,7 @@
-use borrow.Author.Rules.{rules}
-use Rattle.base.proofs.Parts.{part_length}
-use Rattle.callout_log.proofs.Appending.{store_within}
-use Rattle.callout_log.proofs.Reading.{read_no_store, read_store}
+use Rattle.callout_log.proofs.Reading.{read_good}
 use Rattle.callout_log.proofs.read.read.Goals as goal
 
-pub returns-then-not-is_store : goal.returns-then-not-is_store
-returns-then-not-is_store c = search (read_no_store, rules)
-
-pub slice_bounds-read_bytes-end : goal.slice_bounds-read_bytes-end
-slice_bounds-read_bytes-end c = search (part_length, store_within, rules)
-
-pub returns : goal.returns
-returns c = search (read_store, rules)
+pub returns-clause-reads : goal.returns-clause-reads
+returns-clause-reads c =
+    let log = c.in_ok-log.log in
+    read_good _ _ _ c.in_ok-log.ensures _ _ _ _ log.callouts_counted log.records_counted _ c.if-not-have_room.ensures c.read_callouts.ensures.listing

@@ -1,68 +1,44 @@
-use borrow.Author.Rules.{rules}
-use mathlib.Core.Path.{refl}
+use mathlib.Core.Path.{refl, ap, ◌∙◌}
 use native.Mathlib.Omega.{arith}
-use Rattle.callout_log.proofs.Filling.{fill_begins, fill_ends, fill_eight, fill_count, fill_back, fill_inside, fill_times, fill_counters, fill_session_ids, fill_local_indices, fill_verdicts, fill_exactly, fill_more}
+use Rattle.callout_log.specs.declared.log.Callouts.{Callouts}
+use Rattle.callout_log.proofs.Filling.{fill_begins, fill_count, fill_inside, fill_room, fill_more, fill_ends}
 use Rattle.callout_log.proofs.read.read_callouts.Goals as goal
 
-pub loop-end-init : goal.loop-end-init
-loop-end-init c = search (fill_begins, rules)
+pub loop-i-init : goal.loop-i-init
+loop-i-init c =
+    let made = c.callouts.ensures in
+    let source = c.enumerate-i-items.ensures.source in
+    rw (c.into_iter-i-iterator.ensures.into_iter_gives, c.enumerate-i-items.ensures.count) record {
+      filling = fill_begins _ _ _ _ _ _ (ap (λ (it : Callouts). it.bytes.now) source ∙ made.bytes) (ap (λ (it : Callouts). it.end) source ∙ made.end)
+          c.args.log.callouts_counted c.args.log.records_counted c.requires (omega arith);
+      same = record { counts = refl; times = refl; counters = refl; session_ids = refl; local_indices = refl; verdicts = refl };
+    }
 
-pub records_before-count-requires : goal.records_before-count-requires
-records_before-count-requires c = search (fill_eight, rules)
+pub bounds-lists-i : goal.bounds-lists-i
+bounds-lists-i c = rw c.in-Some.ensures.steps.1 (fill_count _ _ _ _ _ _ _ c.loop-i.invariant.filling _ _ c.in-Some.ensures.steps.0)
 
-pub overflow_add-next : goal.overflow_add-next
-overflow_add-next c = search (fill_times, rules)
+pub read_records-requires-clause-inside : goal.read_records-requires-clause-inside
+read_records-requires-clause-inside c = fill_inside _ _ _ _ _ _ _ c.loop-i.invariant.filling _ _ c.in-Some.ensures.steps.0
 
-pub overflow_sub-end : goal.overflow_sub-end
-overflow_sub-end c = search (fill_back, rules)
+pub read_records-requires-clause-room : goal.read_records-requires-clause-room
+read_records-requires-clause-room c = fill_room _ _ _ _ _ _ _ c.loop-i.invariant.filling _ _ c.in-Some.ensures.steps.0 _
 
-pub offset_bounds-counts-callouts : goal.offset_bounds-counts-callouts
-offset_bounds-counts-callouts c = search (fill_count, rules)
+pub loop-i-preserved : goal.loop-i-preserved
+loop-i-preserved c =
+    let step = c.in-Some.ensures.steps in
+    let same = c.read_records.ensures.same in
+    let before = c.loop-i.invariant.same in
+    record {
+      filling = rw step.2 (fill_more _ _ _ _ _ _ _ c.loop-i.invariant.filling _ _ step.0 _ (rw step.1 at c.read_records.ensures.put));
+      same = record {
+        counts = same.counts ∙ before.counts;
+        times = same.times ∙ before.times;
+        counters = same.counters ∙ before.counters;
+        session_ids = same.session_ids ∙ before.session_ids;
+        local_indices = same.local_indices ∙ before.local_indices;
+        verdicts = same.verdicts ∙ before.verdicts;
+      };
+    }
 
-pub bounds-counts-callouts : goal.bounds-counts-callouts
-bounds-counts-callouts c = search (fill_count, rules)
-
-pub offset_bounds-times-at : goal.offset_bounds-times-at
-offset_bounds-times-at c = search (fill_times, rules)
-
-pub offset_bounds-counters-at : goal.offset_bounds-counters-at
-offset_bounds-counters-at c = search (fill_counters, rules)
-
-pub offset_bounds-session_ids-at : goal.offset_bounds-session_ids-at
-offset_bounds-session_ids-at c = search (fill_session_ids, rules)
-
-pub offset_bounds-local_indices-at : goal.offset_bounds-local_indices-at
-offset_bounds-local_indices-at c = search (fill_local_indices, rules)
-
-pub slice_bounds-read_records-end : goal.slice_bounds-read_records-end
-slice_bounds-read_records-end c = search (fill_times, rules)
-
-pub slice_bounds-read_records-end-in-loop-end : goal.slice_bounds-read_records-end-in-loop-end
-slice_bounds-read_records-end-in-loop-end c = search (fill_counters, rules)
-
-pub slice_bounds-read_records-end-in-loop-end-2 : goal.slice_bounds-read_records-end-in-loop-end-2
-slice_bounds-read_records-end-in-loop-end-2 c = search (fill_session_ids, rules)
-
-pub slice_bounds-read_records-end-in-loop-end-3 : goal.slice_bounds-read_records-end-in-loop-end-3
-slice_bounds-read_records-end-in-loop-end-3 c = search (fill_local_indices, rules)
-
-pub slice_bounds-read_records-end-in-loop-end-4 : goal.slice_bounds-read_records-end-in-loop-end-4
-slice_bounds-read_records-end-in-loop-end-4 c = search (fill_verdicts, rules)
-
-pub read_records-requires : goal.read_records-requires
-read_records-requires c = search (fill_exactly, fill_inside, rules)
-
-pub overflow_add-callouts : goal.overflow_add-callouts
-overflow_add-callouts c =
-    omega (arith, fill_count _ _ _ _ _ _ _ _ _ _ _ _ _ _ _ _ c.loop-end.invariant c.loop-end-test.true)
-
-pub loop-end-smaller : goal.loop-end-smaller
-loop-end-smaller c =
-    omega (arith, c.loop-end-test.true)
-
-pub loop-end-preserved : goal.loop-end-preserved
-loop-end-preserved c =
-    fill_more _ _ _ _ _ _ _ _ _ _ _ _ _ _ _ _ c.loop-end.invariant _ c.loop-end-test.true c.records_before-count.ensures _ _ _ _ _ _ _ _ _ _ _ c.read_records.ensures refl refl refl refl refl refl
-
-pub returns : goal.returns
-returns c = search (fill_ends, rules)
+pub returns-clause-listing : goal.returns-clause-listing
+returns-clause-listing c = fill_ends _ _ _ _ _ _ _ c.loop-i.invariant.filling c.in-None.ensures.steps.0

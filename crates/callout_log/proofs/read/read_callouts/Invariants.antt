@@ -1,10 +1,10 @@
+use Rattle.std.specs.Iterator.Adapters.{enumerate_count, enumerate_source}
+use Rattle.callout_log.specs.Read.{SameLists, held}
 use Rattle.callout_log.proofs.Filling.{Filling}
 use Rattle.callout_log.proofs.read.read_callouts.Given as goal
 
-abbrev pub invariant-loop-end : goal.invariant-loop-end
-invariant-loop-end l =
-    Filling l.bytes l.initial.counts l.initial.times l.initial.counters l.initial.session_ids l.initial.local_indices l.initial.verdicts l.counts l.times l.counters l.session_ids l.local_indices l.verdicts l.end l.callouts l.at
-
-abbrev pub decreases-loop-end : goal.decreases-loop-end
-decreases-loop-end l =
-    l.end
+abbrev pub invariant-loop-i : goal.invariant-loop-i
+invariant-loop-i l = record {
+  filling : Filling l.log.bytes.now l.hides (held l.initial.lists) (held l.lists) (enumerate_source l.i-iterator) (enumerate_count l.i-iterator) l.records;
+  same : SameLists l.lists l.initial.lists;
+}

@@ -1,11 +1,9 @@
-use Prim.Native.Nat.{◌-◌}
-use Rattle.callout_log.proofs.Copies.{Copying}
+use Rattle.callout_log.specs.Read.{SameLists, held}
+use Rattle.callout_log.proofs.Filling.{Putting}
 use Rattle.callout_log.proofs.read.read_records.Given as goal
 
 abbrev pub invariant-loop-i : goal.invariant-loop-i
-invariant-loop-i l =
-    Copying l.bytes l.first l.count l.initial.times l.initial.counters l.initial.session_ids l.initial.local_indices l.initial.verdicts l.times l.counters l.session_ids l.local_indices l.verdicts l.i
-
-abbrev pub decreases-loop-i : goal.decreases-loop-i
-decreases-loop-i l =
-    l.count - l.i
+invariant-loop-i l = record {
+  putting : Putting l.bytes l.hides l.callout.first l.callout.count (held l.initial.lists) (held l.lists) l.at l.i;
+  same : SameLists l.lists l.initial.lists;
+}

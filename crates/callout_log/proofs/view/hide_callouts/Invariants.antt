@@ -1,8 +1,5 @@
-use Rattle.callout_log.proofs.Viewing.{HidingUpTo}
+use Rattle.callout_log.proofs.Viewing.{HidingLeft}
 use Rattle.callout_log.proofs.view.hide_callouts.Given as goal
 
-abbrev pub invariant-loop-end : goal.invariant-loop-end
-invariant-loop-end l = HidingUpTo l.log l.initial.bytes l.bytes l.end
-
-abbrev pub decreases-loop-end : goal.decreases-loop-end
-decreases-loop-end l = l.end
+abbrev pub invariant-loop-callout : goal.invariant-loop-callout
+invariant-loop-callout l = HidingLeft l.log.bytes.now l.initial.bytes l.bytes l.callout-iterator

@@ -1,12 +1,8 @@
-use borrow.Author.Rules.{rules}
-use Rattle.callout_log.proofs.Viewing.{hide_begins, hide_more, hide_ends}
+use native.Mathlib.Omega.{arith}
+use Rattle.callout_log.proofs.Viewing.{hide_more, record_hidden}
 use Rattle.callout_log.proofs.view.hide_records.Goals as goal
 
-pub loop-left-init : goal.loop-left-init
-loop-left-init c = search (hide_begins, rules)
-
-pub loop-left-preserved : goal.loop-left-preserved
-loop-left-preserved c = search (hide_more, rules)
-
-pub returns : goal.returns
-returns c = search (hide_ends, rules)
+pub loop-i-preserved : goal.loop-i-preserved
+loop-i-preserved c =
+    hide_more _ _ _ _ _ c.loop-i.invariant _ c.loop-i-test.true
+    (record_hidden _ _ _ (omega (arith, c.loop-i.invariant.inside)) (c.fill.ensures.after (λ y e. e)))

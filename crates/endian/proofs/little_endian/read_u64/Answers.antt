@@ -1,6 +1,5 @@
-use borrow.Author.Rules.{rules}
-use Rattle.endian.proofs.LittleEndian.{two_halves}
+use Rattle.endian.proofs.LittleEndian.{from_chunk}
 use Rattle.endian.proofs.little_endian.read_u64.Goals as goal
 
 pub returns : goal.returns
-returns c = search (two_halves, rules)
+returns c = from_chunk _ _ _ 7 (rw c.unwrap.ensures at c.try_into.ensures).1 c.from_le_bytes.ensures

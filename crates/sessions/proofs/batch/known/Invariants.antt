@@ -1,10 +1,6 @@
-use Rattle.std.proofs.Common.{◌≡◌, ◌-◌, ◌≤◌, false, length, drop}
-use Rattle.base.specs.Choice.{choose}
-use Rattle.sessions.specs.Batch.{known}
+use Rattle.std.proofs.Common.{◌≡◌, leb, take}
+use Rattle.std.specs.List.{list_all}
 use Rattle.sessions.proofs.batch.known.Given as goal
 
-abbrev pub invariant-loop-i : goal.invariant-loop-i
-invariant-loop-i l = (l.i ≤ length l.kinds) × (known l.kinds ≡ choose l.good (known (drop l.i l.kinds)) false)
-
-abbrev pub decreases-loop-i : goal.decreases-loop-i
-decreases-loop-i l = length l.kinds - l.i
+abbrev pub invariant-loop-kind : goal.invariant-loop-kind
+invariant-loop-kind l = l.good ≡ list_all (λ kind. leb kind 2) (take l.kind-index l.kinds)

@@ -1,19 +1,13 @@
-use Rattle.std.proofs.Common.{rules}
-use Rattle.sessions.specs.Session.{empty_session, new_session}
-use Rattle.sessions.proofs.Loops.{slots_begin, slots_more, slots_end, slot_bad}
+use Rattle.std.proofs.Common.{◌∙◌, rules, tests}
+use Rattle.std.proofs.lemmas.Iterator.{YieldsList-from_slice}
+use Rattle.std.proofs.lemmas.Iterator.Consumers.{YieldsList-from_enumerate}
+use Rattle.std.proofs.lemmas.Iterator.Search.{all_from_yields_List}
+use Rattle.sessions.specs.Damage.{slot_holds}
+use Rattle.sessions.proofs.Slots.{all_hold}
 use Rattle.sessions.proofs.damage.sessions_hold.Goals as goal
 
-pub loop-slot-init : goal.loop-slot-init
-loop-slot-init c = search (slots_begin, rules)
-
-pub loop-slot-preserved : goal.loop-slot-preserved
-unfolding empty_session new_session
-loop-slot-preserved c = search (slots_more, rules)
-
-pub returns-else-slot_holds : goal.returns-else-slot_holds
-unfolding empty_session new_session
-returns-else-slot_holds c = search (slot_bad, rules)
-
 pub returns : goal.returns
-unfolding empty_session new_session
-returns c = search (slots_end, rules)
+returns c =
+    all_from_yields_List (λ p. slot_holds p.1 p.0 c.args.greatest) _ _ c.all.result c.all.ensures.ran
+    (YieldsList-from_enumerate (YieldsList-from_slice c.args.sessions.slots (cc)) (cc)) (λ x b q k. search (rules, tests))
+    ∙ all_hold c.args.sessions c.args.greatest (search rules)

@@ -1,15 +1,15 @@
-use borrow.Author.Rules.{rules}
-use Rattle.text.proofs.HexReading.{hex_none, hex_pairs, hex_dash, hex_other}
+use native.Mathlib.Omega.{arith}
+use Rattle.text.proofs.HexReading.{hex_none, hex_dash, hex_other, long_read}
 use Rattle.text.proofs.hex.read_hex.Goals as goal
 
-pub returns-then-word-eq0 : goal.returns-then-word-eq0
-returns-then-word-eq0 c = search (hex_none, rules)
+pub returns-in-45-clause-read : goal.returns-in-45-clause-read
+returns-in-45-clause-read c = hex_dash _ _ (omega arith) (omega arith) (omega arith)
 
-pub returns-then-word-gt1 : goal.returns-then-word-gt1
-returns-then-word-gt1 c = search (hex_pairs, rules)
+pub returns-in-len2-up-clause-read : goal.returns-in-len2-up-clause-read
+returns-in-len2-up-clause-read c = rw (← long_read c.args.word.now (omega arith)) c.read_pairs.ensures.read
 
-pub returns-then-word-eq45 : goal.returns-then-word-eq45
-returns-then-word-eq45 c = search (hex_dash, rules)
+pub returns-in_default-clause-read : goal.returns-in_default-clause-read
+returns-in_default-clause-read c = hex_none _ _ (omega arith)
 
-pub returns : goal.returns
-returns c = search (hex_other, rules)
+pub returns-in_default-2-clause-read : goal.returns-in_default-2-clause-read
+returns-in_default-2-clause-read c = hex_other _ _ (omega arith) (omega arith) (λ e. omega arith)

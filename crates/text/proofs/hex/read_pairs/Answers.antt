@@ -1,12 +1,5 @@
-use borrow.Author.Rules.{rules}
-use Rattle.text.proofs.HexReading.{answered, pairs_long, pairs_unread}
+use Rattle.text.proofs.HexReading.{storing_more}
 use Rattle.text.proofs.hex.read_pairs.Goals as goal
 
-pub returns-then-word-bytes : goal.returns-then-word-bytes
-returns-then-word-bytes c = search (pairs_long, rules)
-
-pub store_pairs-requires : goal.store_pairs-requires
-store_pairs-requires c = search (answered, rules)
-
-pub returns : goal.returns
-returns c = search (pairs_unread, rules)
+pub loop-i-preserved : goal.loop-i-preserved
+loop-i-preserved c = storing_more _ _ _ _ c.loop-i.invariant _ _ c.loop-i-test.true c.byte_of.ensures c.unwrap.ensures

@@ -1,15 +1,9 @@
-use borrow.Author.Rules.{rules}
-use Rattle.text.proofs.Digits.{spelling_begins, spelling_more, spelling_ends, spelling_full}
+use native.Mathlib.Omega.{arith}
+use Rattle.text.proofs.Digits.{spelling_ends, spelling_more}
 use Rattle.text.proofs.text.spell.Goals as goal
 
-pub loop-i-init : goal.loop-i-init
-loop-i-init c = search (spelling_begins, rules)
-
 pub returns-then-rest-eq0 : goal.returns-then-rest-eq0
-returns-then-rest-eq0 c = search (spelling_ends, rules)
+returns-then-rest-eq0 c = spelling_ends _ _ _ _ c.loop-i.invariant (omega arith) c.if-rest-eq0.true
 
 pub loop-i-preserved : goal.loop-i-preserved
-loop-i-preserved c = search (spelling_more, rules)
-
-pub returns : goal.returns
-returns c = search (spelling_full, rules)
+loop-i-preserved c = spelling_more _ _ _ _ c.loop-i.invariant (omega arith) c.if-rest-eq0.false

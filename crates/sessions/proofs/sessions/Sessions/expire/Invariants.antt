@@ -1,9 +1,8 @@
-use Rattle.std.proofs.Common.{◌-◌}
-use Rattle.sessions.proofs.Loops.{Gone}
+use Rattle.std.proofs.Common.{◌≡◌, None}
+use Rattle.sessions.specs.Sessions.{expiring, expire_first}
 use Rattle.sessions.proofs.sessions.Sessions.expire.Given as goal
 
 abbrev pub invariant-loop-slot : goal.invariant-loop-slot
-invariant-loop-slot l = Gone l.initial.expired l.initial.store l.now l.slot l.expired l.store
-
-abbrev pub decreases-loop-slot : goal.decreases-loop-slot
-decreases-loop-slot l = 8 - l.slot
+invariant-loop-slot l =
+    expiring (record { sessions = l.self; current = l.expired_current }) l.store
+    ≡ expire_first (expiring (record { sessions = l.initial.self; current = None }) l.initial.store) l.slot l.now

@@ -1,15 +1,13 @@
-use Rattle.std.proofs.Common.{rules}
-use Rattle.base.proofs.First.{none_begins, none_more, one_found, none_found}
+use Rattle.std.proofs.Common.{not, ◌&&◌, ap, ◌∙◌, rules, tests}
+use Rattle.std.proofs.lemmas.Iterator.{YieldsList-from_slice}
+use Rattle.std.proofs.lemmas.Iterator.Search.{any_from_yields_List}
+use Rattle.sessions.specs.Session.{expired_at}
+use Rattle.sessions.proofs.Slots.{none_due}
 use Rattle.sessions.proofs.sessions.Sessions.none_expired.Goals as goal
 
-pub loop-slot-init : goal.loop-slot-init
-loop-slot-init c = search (none_begins, rules)
-
-pub returns-then-expired_slot : goal.returns-then-expired_slot
-returns-then-expired_slot c = search (one_found, rules)
-
-pub loop-slot-preserved : goal.loop-slot-preserved
-loop-slot-preserved c = search (none_more, rules)
-
 pub returns : goal.returns
-returns c = search (none_found, rules)
+returns c =
+    ap not
+    (any_from_yields_List (λ x. x.filled && expired_at x c.args.now) _ _ c.any.result c.any.ensures.ran
+    (YieldsList-from_slice c.args.self.slots (cc)) (λ x b q k. search (rules, tests)))
+    ∙ none_due c.args.self c.args.now (search rules)

@@ -1,28 +1,16 @@
-use Rattle.std.proofs.Common.{◌≡◌, length, rules}
+use Rattle.std.proofs.Common.{◌≡◌, ◌∙◌, sym, length, rules}
+use Rattle.sessions.proofs.Batches.{received}
 use Rattle.sessions.proofs.Turned.{fits_long}
-use Rattle.sessions.proofs.Batches.{no_batch, none_receives, one_receives, wrong_store}
-use borrow.Author.Tests.{not-true, not-false}
 use Rattle.sessions.proofs.sessions.Sessions.receive.Goals as goal
 
-pub returns-then-store-ne1024 : goal.returns-then-store-ne1024
-returns-then-store-ne1024 c = search (wrong_store, rules)
-
-pub returns-then-not-fits : goal.returns-then-not-fits
-returns-then-not-fits c = search (no_batch, not-true, rules)
-
-pub returns-in_default : goal.returns-in_default
-returns-in_default c = search (none_receives, not-false, rules)
-
 pub finish_all-progress-requires : goal.finish_all-progress-requires
-finish_all-progress-requires c =
-    fits_long _ _ _ _ _ c.fits.ensures c.if-not-fits.false
+finish_all-progress-requires c = fits_long _ _ _ _ (sym c.fits.ensures ∙ c.if-not-fits.false)
 
 pub returns : goal.returns
 returns c =
     let a = c.args in
-    let stored : length a.store.now ≡ 1024 = search (c.if-store-ne1024.false, rules) in
-    search (
-      one_receives a.self a.store.now a.index a.id a.now a.counters.now a.kinds.now a.verdicts.now a.skips.now stored _
-          c.fits.ensures c.if-not-fits.false _ c.receiving_session.ensures,
-      rules,
-    )
+    let whole : length a.store.now ≡ 1024 = search rules in
+    received a.self a.store.now a.index a.id a.now a.counters.now a.kinds.now a.verdicts.now a.skips.now c.in-Some.session c.slot_of.result
+    c.words_of.result.start c.words_of.result.end _ _ _ _ _ whole (sym c.fits.ensures ∙ c.if-not-fits.false)
+    (sym c.receiving_session.ensures ∙ c.in-Some.is) c.slot_of.ensures c.words_of.ensures.start c.words_of.ensures.end c.finish_all-progress.ensures
+    (search rules) c.after_batch.ensures

@@ -9,4 +9,4 @@ returns c =
     let places = c.well_formed.0.1.1.1.1.1.0.1.1.0.1.0.1 in
     let eight : length c.args.self.sessions.slots ≡ 8 = search (long, slots) in
     let sixteen : length c.args.self.events.slots ≡ 16 = search (long, places) in
-    wakes _ _ _ _ _ _ c.requires.0 c.requires.1 c.requires.2 eight sixteen c.handle_timeout-out.ensures
+    wakes _ _ _ _ _ _ c.requires c.args.waking.timely c.args.waking.small eight sixteen c.handle_timeout.ensures

@@ -1,0 +1,9 @@
+use Rattle.std.proofs.Common.{◌≡◌}
+use Rattle.text.proofs.HexWriting.{HexPutting}
+use Rattle.text.proofs.text.Output.put_hex.Given as goal
+
+abbrev pub invariant-loop-byte : goal.invariant-loop-byte
+invariant-loop-byte l = record {
+  lent : l.self.buffer.ghost_name ≡ l.initial.self.buffer.ghost_name;
+  put : HexPutting l.initial.self.buffer.now l.initial.self.at l.bytes l.self.buffer.now l.self.at l.byte-index;
+}
