@@ -1,4 +1,5 @@
-// One call over and over. A call that leaves the tunnel as it is finds its greatest time raised at each turn.
+// One call over and over. A call that leaves the tunnel as it is finds its greatest time raised at each turn. Each loop makes its call itself: a
+// closure that is handed the tunnel copies it, which is more than some of the calls take.
 use crate::begin::{INDEX, weight};
 use crate::lists::Lists;
 use tunnel::answer::Answer;
@@ -7,38 +8,13 @@ use tunnel::tunnel::{Answered, Tunnel};
 // A second in nanoseconds.
 pub const SECOND: u64 = 1_000_000_000;
 
-// The tunnel after a call in each turn.
-fn repeat<F: FnMut(Tunnel, u64) -> Answered>(mut tunnel: Tunnel, turns: u64, mut call: F) -> Tunnel
-    requires { F.IsAlwaysCallable call }
-{
-    for turn in 0..turns {
-        let answered = call(tunnel, turn);
-        tunnel = answered.tunnel;
-    }
-    tunnel
-}
-
-// The same, with its greatest time raised by what all the answers come to, so that none is left unmade.
-fn repeat_weighed<F: FnMut(Tunnel, u64) -> Answered>(
-    mut tunnel: Tunnel,
-    turns: u64,
-    mut call: F,
-) -> Tunnel
-    requires { F.IsAlwaysCallable call }
-{
-    let mut sum = 0u64;
-    for turn in 0..turns {
-        let answered = call(tunnel, turn);
-        tunnel = answered.tunnel;
-        sum = sum.wrapping_add(weight(answered.answer));
-    }
-    tunnel.greatest = tunnel.greatest.wrapping_add(sum % 2);
-    tunnel
-}
-
 // Sends of one message.
-pub fn sends(tunnel: Tunnel, turns: u64) -> Tunnel {
-    repeat(tunnel, turns, |tunnel, now| tunnel.send(1, now))
+pub fn sends(mut tunnel: Tunnel, turns: u64) -> Tunnel {
+    for now in 0..turns {
+        let send = tunnel.send(1, now);
+        tunnel = send.tunnel;
+    }
+    tunnel
 }
 
 // Batches of as many messages as there are kinds, of which there is one at least.
@@ -52,11 +28,16 @@ pub fn receives(mut tunnel: Tunnel, counters: &[u64], lists: &mut Lists, turns: 
 }
 
 // Early looks at counters that follow each other.
-pub fn looks(tunnel: Tunnel, store: &[u64], turns: u64) -> Tunnel {
-    repeat_weighed(tunnel, turns, |mut tunnel, now| {
+pub fn looks(mut tunnel: Tunnel, store: &[u64], turns: u64) -> Tunnel {
+    let mut sum = 0u64;
+    for now in 0..turns {
         tunnel.greatest = now;
-        tunnel.look(store, INDEX, now, now)
-    })
+        let look = tunnel.look(store, INDEX, now, now);
+        tunnel = look.tunnel;
+        sum = sum.wrapping_add(weight(look.answer));
+    }
+    tunnel.greatest = tunnel.greatest.wrapping_add(sum % 2);
+    tunnel
 }
 
 // Missing reports: what the last one answers.
@@ -74,36 +55,58 @@ pub fn reports(tunnel: Tunnel, store: &[u64], turns: u64) -> Answered {
 }
 
 // Wakings at times that are a step apart.
-pub fn wakes(tunnel: Tunnel, store: &mut [u64], step: u64, turns: u64) -> Tunnel {
-    repeat(tunnel, turns, |tunnel, turn| {
-        tunnel.handle_timeout(store, 0, turn.wrapping_add(1).wrapping_mul(step))
-    })
+pub fn wakes(mut tunnel: Tunnel, store: &mut [u64], step: u64, turns: u64) -> Tunnel {
+    let mut now = 0u64;
+    for _ in 0..turns {
+        now = now.wrapping_add(step);
+        let waking = tunnel.handle_timeout(store, 0, now);
+        tunnel = waking.tunnel;
+    }
+    tunnel
 }
 
 // Settlings at times that are a step apart.
-pub fn settles(tunnel: Tunnel, store: &mut [u64], step: u64, turns: u64) -> Tunnel {
-    repeat(tunnel, turns, |tunnel, turn| {
-        tunnel.settle(store, 0, turn.wrapping_add(1).wrapping_mul(step))
-    })
+pub fn settles(mut tunnel: Tunnel, store: &mut [u64], step: u64, turns: u64) -> Tunnel {
+    let mut now = 0u64;
+    for _ in 0..turns {
+        now = now.wrapping_add(step);
+        let settling = tunnel.settle(store, 0, now);
+        tunnel = settling.tunnel;
+    }
+    tunnel
 }
 
 // The tunnel without its queued events, of which there are sixteen at most.
-pub fn drained(tunnel: Tunnel) -> Tunnel {
-    repeat(tunnel, 16, |tunnel, _| tunnel.poll_event())
+pub fn drained(mut tunnel: Tunnel) -> Tunnel {
+    for _ in 0..16 {
+        let event = tunnel.poll_event();
+        tunnel = event.tunnel;
+    }
+    tunnel
 }
 
 // Deadlines.
-pub fn deadlines(tunnel: Tunnel, turns: u64) -> Tunnel {
-    repeat_weighed(tunnel, turns, |mut tunnel, _| {
+pub fn deadlines(mut tunnel: Tunnel, turns: u64) -> Tunnel {
+    let mut sum = 0u64;
+    for _ in 0..turns {
         tunnel.greatest = tunnel.greatest.wrapping_add(1);
-        tunnel.poll_timeout()
-    })
+        let deadline = tunnel.poll_timeout();
+        tunnel = deadline.tunnel;
+        sum = sum.wrapping_add(weight(deadline.answer));
+    }
+    tunnel.greatest = tunnel.greatest.wrapping_add(sum % 2);
+    tunnel
 }
 
 // Polls of an empty queue.
-pub fn events(tunnel: Tunnel, turns: u64) -> Tunnel {
-    repeat_weighed(tunnel, turns, |mut tunnel, turn| {
-        tunnel.greatest = turn;
-        tunnel.poll_event()
-    })
+pub fn events(mut tunnel: Tunnel, turns: u64) -> Tunnel {
+    let mut sum = 0u64;
+    for now in 0..turns {
+        tunnel.greatest = now;
+        let event = tunnel.poll_event();
+        tunnel = event.tunnel;
+        sum = sum.wrapping_add(weight(event.answer));
+    }
+    tunnel.greatest = tunnel.greatest.wrapping_add(sum % 2);
+    tunnel
 }

@@ -18,7 +18,7 @@ use Rattle.callout_log.specs.Trailer.{count_before}
 use Rattle.callout_log.specs.Log.{ends, places, places_before, places_from}
 use Rattle.callout_log.specs.declared.read.Lists.{Lists as Lent}
 use Rattle.callout_log.specs.Read.{HasRoom, Lists, SameLists, hold, listing, lists_of, over, put_all, put_at}
-use Rattle.callout_log.proofs.Copies.{length_places}
+use Rattle.callout_log.proofs.Places.{length_places}
 use Rattle.callout_log.proofs.Walk.{both, from, from_front}
 use Rattle.callout_log.proofs.Walking.{step_count, step_ends, step_far, step_inside, step_places, step_same}
 

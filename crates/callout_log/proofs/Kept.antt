@@ -19,7 +19,7 @@ use Rattle.callout_log.specs.Trailer.{count_before, distance, is_trailer, traile
 use Rattle.callout_log.specs.Log.{callout_bytes, ends, ends_before, every, log_bytes, places, places_before, places_from}
 use Rattle.callout_log.specs.Read.{Lists, hold, read_bytes, reading}
 use Rattle.callout_log.specs.Laws.{All, none, more, Report, Room, TrailerAt, records_in}
-use Rattle.callout_log.proofs.Copies.{length_places}
+use Rattle.callout_log.proofs.Places.{length_places}
 use Rattle.callout_log.proofs.ReadBack.{Reads}
 use Rattle.callout_log.proofs.Stands.{good_record, good_report, good_trailer, two_parts}
 use Rattle.callout_log.proofs.Tested.{fails}

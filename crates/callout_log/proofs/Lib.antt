@@ -2,7 +2,6 @@ pub mod Appended
 pub mod Appending
 pub mod Broken
 pub mod Checks
-pub mod Copies
 pub mod Exact
 pub mod Filling
 pub mod Format
@@ -14,6 +13,7 @@ pub mod Laws
 pub mod Opening
 pub mod Outside
 pub mod Placed
+pub mod Places
 pub mod ReadBack
 pub mod Reading
 pub mod Records

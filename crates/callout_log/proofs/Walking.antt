@@ -17,7 +17,7 @@ use Rattle.std.specs.Prelude.{Result, Ok, Err}
 use Rattle.callout_log.specs.Callouts.{StepsBack}
 use Rattle.callout_log.specs.declared.log.Callout.{Callout}
 use Rattle.callout_log.specs.declared.log.Callouts.{Callouts}
-use Rattle.callout_log.proofs.Copies.{length_places}
+use Rattle.callout_log.proofs.Places.{length_places}
 use Rattle.callout_log.proofs.Trailers.{told_records, told_broken, points_back}
 use Rattle.callout_log.proofs.Walk.{both, every_on, from, from_good, from_bad, from_front}
 

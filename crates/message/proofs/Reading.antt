@@ -102,3 +102,6 @@ module _ (bytes : Bor (List ℕ)) where
           block = refl;
           offset = rw said;
         }
+
+-- the ways through `encrypted_part`
+pub ruleset parts = (end_short, end_type, part_data)

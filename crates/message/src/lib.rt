@@ -40,7 +40,7 @@ pub const AEAD_TAG_SZ: usize = 16;
 pub const DATA_OVERHEAD_SZ: usize = DATA_HEADER_SZ + AEAD_TAG_SZ;
 
 // What a datagram says.
-#[derive(Clone, Copy, PartialEq, Eq)]
+#[derive(Clone, Copy)]
 pub enum ReceivedMessage {
     HandshakeInitiation { sender_idx: u32 },
     HandshakeResponse { sender_idx: u32, receiver_idx: u32 },
@@ -77,7 +77,7 @@ pub fn read_datagram(bytes: &[u8]) -> Result<ReceivedMessage, Error>
 }
 
 // The encrypted part of a data message, as a part of the lent bytes; for anything else the empty part at their end.
-#[tactic(auto, using(crate::proofs::Reading::end_short, crate::proofs::Reading::end_type, crate::proofs::Reading::part_data))]
+#[tactic(auto, using(crate::proofs::Reading::parts))]
 pub fn encrypted_part(bytes: &[u8]) -> &[u8]
     ensures { EncryptedPart bytes.entry result }
 {

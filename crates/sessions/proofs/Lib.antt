@@ -1,16 +1,7 @@
-pub mod Apart
 pub mod Batches
-pub mod Heard
-pub mod Indices
 pub mod Laws
-pub mod Looks
-pub mod Lookups
 pub mod LowByte
 pub mod Missing
-pub mod Received
 pub mod Reservations
 pub mod Slots
-pub mod Turned
-pub mod Usable
-pub mod Wholes
 pub mod Words

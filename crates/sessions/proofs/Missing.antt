@@ -1,26 +1,17 @@
 -- The missing count of a window: its counters less those whose bit is set, which are the ones of whole words and of a part of one.
 -- Assumes nothing.
-use Rattle.std.proofs.Common.{◌≡◌, ℕ, ◌+◌, ◌-◌, ◌*◌, ◌/◌, ◌%◌, ◌^◌, ◌<◌, ◌≤◌, min, eqb, List, length, sum_by, get_or, take, refl, ap, arith, shl_exact, eq-eqb, ne_eqb, Fits, w64}
-use native.Mathlib.Decide.{ℕ_discrete}
+use Rattle.std.proofs.Common.{◌≡◌, ℕ, ◌+◌, ◌-◌, ◌*◌, ◌/◌, ◌%◌, ◌^◌, ◌<◌, ◌≤◌, min, eqb, List, length, sum_by, get_or, take, refl, ap, arith, shl_exact, Fits, w64}
 use lib.Bits.{and_mask, bit_and}
 use lib.Count.{ones}
 use Rattle.std.proofs.lemmas.List.Recursion.{is_sum_by}
-use Rattle.base.specs.Choice.{choose, case_option}
+use Rattle.std.proofs.lemmas.Bool.Decides.{nat_tests}
+use Rattle.base.specs.Choice.{choose}
 use Rattle.base.specs.Lists.{ones_of}
 use Rattle.base.specs.Sums.{sum}
 use Rattle.base.proofs.Bits.{bit_small}
 use Rattle.base.proofs.Sums.{Fitting, sum_cong, sum_parted, ones_first, ones_cycled, ones_before}
-use Rattle.sessions.specs.Index.{slot_of}
-use Rattle.sessions.specs.Laws.{InSlot}
-use Rattle.sessions.specs.Sessions.{get, missing}
-use Rattle.sessions.specs.Store.{slot_words, missing_of}
-use Rattle.sessions.specs.declared.session.Session.{Session}
-use Rattle.sessions.specs.declared.sessions.Sessions.{Sessions}
-use Rattle.sessions.proofs.Lookups.{got_slot}
-use Rattle.sessions.proofs.Usable.{in_got}
+use Rattle.sessions.specs.Store.{missing_of}
 use Rattle.window.specs.Window.{word_of, bit_of, bit_at, check_bit}
-use Rattle.std.specs.Prelude.{Err, None, Ok, Option, Some}
-use Rattle.error.specs.declared.Error.TheVariants.{NoCurrentSession}
 
 -- the ones of words, as the library sums them
 ones_summed : (words : List ℕ) → ones_of words ≡ sum_by ones words
@@ -28,17 +19,10 @@ unfolding ones_of
 ones_summed = is_sum_by ones_of ones refl (λ w rest. refl)
 
 module _ (words : List ℕ) where
-  small : (c : ℕ) → bit_at words c < 2
-  unfolding bit_at
-  small c = bit_small (get_or words (word_of c) 0) (bit_of c)
-
   -- a counter is missing or committed
   parted : (c : ℕ) → choose (check_bit words c) 0 1 + bit_at words c ≡ 1
-  unfolding check_bit choose
-  parted c = elim (ℕ_discrete (bit_at words c) 1) [
-    | yes e ↦ rw (eq-eqb (bit_at words c) 1 e) (omega (arith, e))
-    | no n ↦ rw (ne_eqb (bit_at words c) 1 n) (omega (arith, small c))
-  ]
+  unfolding check_bit bit_at choose
+  parted c = grind (arith, nat_tests, bit_small (get_or words (word_of c) 0) (bit_of c))
 
   stretch : (from count : ℕ) → sum (λ k. choose (check_bit words (from + k)) 0 1) count + sum (λ k. bit_at words (from + k)) count ≡ count
   stretch from count = sum_parted _ _ count (λ k l. parted (from + k))
@@ -101,19 +85,3 @@ unfolding missing_of check_bit
 missing_own words other next same =
     sum_cong _ _ (min next 8192)
     (λ k l. ap (λ (b : ℕ). choose (eqb b 1) 0 1) (same (next - 8192 + k) (omega arith) (omega arith)))
-
--- the report of a session in its slot
-module _ (s : Sessions) (index : ℕ) (x : Session) (i : InSlot s index x) where
-  pub missing_found : (store : List ℕ) → length store ≡ 1024 → missing s store index ≡ Ok (missing_of (slot_words store (slot_of index)) x.next)
-  unfolding missing case_option choose
-  missing_found store l = rw (eq-eqb (length store) 1024 l, in_got s index x i, i.named) refl
-
--- no report
-pub missing_none : (s : Sessions) (store : List ℕ) (index : ℕ) → ((x : Session) → InSlot s index x → ⊥) → length store ≡ 1024 → missing s store index ≡ Err NoCurrentSession
-unfolding missing case_option choose
-missing_none s store index none l = rw (eq-eqb (length store) 1024 l) (by_found (get s index) refl)
-  where
-    by_found : (found : Option Session) → get s index ≡ found
-        → case_option found (Err NoCurrentSession) (λ x. Ok (missing_of (slot_words store (slot_of x.receiving_index)) x.next)) ≡ Err NoCurrentSession
-    by_found None e = refl
-    by_found (Some x) e = absurd (none x (got_slot s index x e))

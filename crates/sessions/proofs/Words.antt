@@ -1,6 +1,6 @@
 -- The lent store by slots: what a part of it is, and what a part put back leaves.
 -- Assumes nothing.
-use Rattle.std.proofs.Common.{◌≡◌, ℕ, ◌+◌, ◌-◌, ◌*◌, ◌<◌, ◌≤◌, List, ◌++◌, length, replicate, take, drop, sym, ap, ◌∙◌, append_assoc, arith, length-append, length-drop, take-append-drop, length-take, length-take-le, take_all, drop-drop, take_at, drop_at}
+use Rattle.std.proofs.Common.{◌≡◌, ℕ, ◌+◌, ◌-◌, ◌*◌, ◌<◌, ◌≤◌, List, ◌++◌, length, replicate, take, drop, sym, ap, ◌∙◌, append_assoc, arith, length-append, length-drop, take-append-drop, length-take, length-take-le, take_all, take-take, drop-drop, take_at, drop_at}
 use native.Mathlib.Decide.{dec_le}
 use lib.Seq.{take-append-le, drop-append-le, drop-append-add}
 use borrow.Rule.Slice.PartMut.{put_mid}
@@ -9,12 +9,12 @@ use Rattle.base.proofs.Zeros.{length_zeros}
 use Rattle.sessions.specs.Store.{slot_words, put_slot, Leaves}
 
 -- a part lent on is a slot's words
-pub part_is : (store : List ℕ) (k start end : ℕ) → start ≡ 128 * k → end ≡ start + 128 → take (end - start) (drop start store) ≡ slot_words store k
+pub part_is : (store : List ℕ) (k start end : ℕ) → start ≡ 128 * k → end ≡ 128 * k + 128 → take (end - start) (drop start store) ≡ slot_words store k
 unfolding slot_words
-part_is store k start end s e = let size : end - start ≡ 128 = omega arith in rw (size, s)
+part_is store k start end s e = grind arith
 
 -- the store after a part came back
-pub part_put : (store words : List ℕ) (k start end : ℕ) → length words ≡ 128 → start ≡ 128 * k → end ≡ start + 128
+pub part_put : (store words : List ℕ) (k start end : ℕ) → length words ≡ 128 → start ≡ 128 * k → end ≡ 128 * k + 128
     → put_mid start (end - start) store words ≡ put_slot store k words
 unfolding put_slot
 part_put store words k start end long s e =
@@ -26,20 +26,25 @@ pub slot_long : (store : List ℕ) (k : ℕ) → length store ≡ 1024 → k < 8
 unfolding slot_words
 slot_long store k l h = length-take-le 128 (drop (128 * k) store) (rw length-drop (omega arith))
 
+-- a slot's own words put back
+pub put_own : (store : List ℕ) (k : ℕ) → length store ≡ 1024 → k < 8 → put_slot store k (slot_words store k) ≡ store
+unfolding put_slot slot_words
+put_own store k l low =
+    let long : length (take 128 (drop (128 * k) store)) ≡ 128 = unfold slot_words in slot_long store k l low in
+    rw (take-take 128 128 (drop (128 * k) store) (omega arith), long, ← drop-drop 128 (128 * k) store, take-append-drop 128 (drop (128 * k) store))
+    (take-append-drop (128 * k) store)
+
 -- a slot of a store zeroed as a part of it
 pub slot_zeroed : (store words : List ℕ) (k start end : ℕ) → length store ≡ 1024 → k < 8 → start ≡ 128 * k → end ≡ 128 * k + 128
     → words ≡ replicate (length (take (end - start) (drop start store))) 0 → put_mid start (end - start) store words ≡ put_slot store k (zeros 128)
 unfolding zeros
 slot_zeroed store words k start end l h s e z =
-    let zeroed : words ≡ zeros 128 = z ∙ ap (λ (n : ℕ). replicate n 0) (ap length (part_is store k start end s (omega arith)) ∙ slot_long store k l h) in
-    part_put store words k start end (ap length zeroed ∙ length_zeros 128) s (omega arith) ∙ ap (put_slot store k) zeroed
+    let zeroed : words ≡ zeros 128 = z ∙ ap (λ (n : ℕ). replicate n 0) (ap length (part_is store k start end s e) ∙ slot_long store k l h) in
+    part_put store words k start end (ap length zeroed ∙ length_zeros 128) s e ∙ ap (put_slot store k) zeroed
 
 -- the words of a slot among those of a store, where the slot lies before or after a place
 front : (a r : List ℕ) (n : ℕ) → n + 128 ≤ length a → take 128 (drop n (a ++ r)) ≡ take 128 (drop n a)
 front a r n h = rw (drop-append-le n a r (omega arith)) (take-append-le 128 (drop n a) r (rw length-drop (omega arith)))
-
-back : (a r : List ℕ) (m : ℕ) → drop (length a + m) (a ++ r) ≡ drop m r
-back a r m = drop-append-add a r m
 
 module _ (store words : List ℕ) (k : ℕ) (l : length store ≡ 1024) (low : k < 8) where
   -- what is put
@@ -85,7 +90,7 @@ module _ (store words : List ℕ) (k : ℕ) (l : length store ≡ 1024) (low : k
       ap (take 128)
       (ap (drop (128 * j)) (sym (append_assoc (take (128 * k) store) these behind))
       ∙ ap (λ (n : ℕ). drop n ((take (128 * k) store ++ these) ++ behind)) place
-      ∙ back (take (128 * k) store ++ these) behind (128 * j - (128 * k + length these))
+      ∙ drop-append-add (take (128 * k) store ++ these) behind (128 * j - (128 * k + length these))
       ∙ drop-drop (128 * j - (128 * k + length these)) (128 * k + length these) store ∙ ap (λ (n : ℕ). drop n store) there)
 
   pub slot_other : (j : ℕ) → (j ≡ k → ⊥) → slot_words (put_slot store k words) j ≡ slot_words store j

@@ -1,5 +1,5 @@
 -- A batch of received messages, after `finish_receive_packet_data` of src/session.rs and `commit_decapsulate` of src/tunnel.rs.
-use Rattle.std.specs.Prelude.{◌≡◌, ℕ, Bool, true, false, ◌||◌, List, [], ◌∷◌, length, ◌==◌, nat_lt, slice_index, slice_set, Err, None, Ok, Option, Result, Some}
+use Rattle.std.specs.Prelude.{◌≡◌, ℕ, Bool, true, false, ◌||◌, List, [], ◌∷◌, length, ◌==◌, nat_lt, Err, None, Ok, Option, Result, Some}
 use Rattle.base.specs.Choice.{choose, case_option, case_result}
 use Rattle.window.specs.Window.{will_accept, next_after, words_after, skipped_by}
 use Rattle.sessions.specs.Index.{slot_of}
@@ -68,17 +68,6 @@ finish_receive_packet_data words progress counter kind =
       };
       words = words_after words progress.next counter;
     }))
-
--- the message at a place of the lists, with its verdict and its skip at that place
-abbrev pub finish_at : List ℕ → Progress → (counters kinds verdicts skips : List ℕ) → ℕ → Batched Progress
-finish_at words progress counters kinds verdicts skips i =
-    let message : Message = finish_receive_packet_data words progress (slice_index counters i) (slice_index kinds i) in
-    record {
-      out = message.finished.progress;
-      store = message.words;
-      verdicts = slice_set verdicts i (verdict_number message.finished.verdict);
-      skips = slice_set skips i message.finished.skipped;
-    }
 
 -- the messages finished in order, each with the window as those before it left it
 unfoldable pub finish_all : List ℕ → Progress → (counters kinds : List ℕ) → Batched Progress

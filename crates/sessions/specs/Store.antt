@@ -1,7 +1,6 @@
 -- The lent store: 1,024 words, of which slot k has the 128 from 128 * k on.
-use Rattle.std.specs.Prelude.{◌≡◌, ℕ, ◌+◌, ◌-◌, ◌*◌, ◌≤◌, min, Bool, List, ◌++◌, length, take, drop, ◌==◌}
+use Rattle.std.specs.Prelude.{◌≡◌, ℕ, ◌+◌, ◌-◌, ◌*◌, min, Bool, List, ◌++◌, length, take, drop, ◌==◌}
 use Rattle.base.specs.Choice.{choose}
-use Rattle.base.specs.Lists.{ones_of}
 use Rattle.base.specs.Sums.{sum}
 use Rattle.window.specs.Window.{check_bit}
 
@@ -16,11 +15,6 @@ slot_words store k = take 128 (drop (128 * k) store)
 -- the store with words put into a slot from its first place on, 128 of them at most
 unfoldable pub put_slot : List ℕ → ℕ → List ℕ → List ℕ
 put_slot store k words = take (128 * k) store ++ (take 128 words ++ drop (128 * k + length (take 128 words)) store)
-
--- a number that is the number of ones in the words, and at most 8,192
-pub record Counted (words : List ℕ) (n : ℕ) : Type 0 where
-  pub out : n ≡ ones_of words
-  pub most : n ≤ 8192
 
 -- the missing count of a window: how many of the last 8,192 counters below `next`, or of all where there are fewer, do not have their bit set
 unfoldable pub missing_of : List ℕ → ℕ → ℕ

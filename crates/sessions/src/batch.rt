@@ -1,8 +1,7 @@
 // A batch of received messages, over lists that the caller lends: a counter and a kind for each, and room for its verdict and its skip.
-ghost use Rattle.std.specs.Prelude.{◌≡◌, ◌<◌, false, length, nat_lt, slice_index, slice_set};
-ghost use Rattle.base.specs.Choice.{choose};
+ghost use Rattle.std.specs.Prelude.{◌≡◌, length};
 ghost use Rattle.sessions.specs.Store.{Leaves};
-ghost use Rattle.sessions.specs.Batch.{LeavesBatch, known, fits, finish_receive_packet_data, finish_at, finish_all, hear, after_batch, receiving_session, receive};
+ghost use Rattle.sessions.specs.Batch.{LeavesBatch, known, fits, finish_receive_packet_data, finish_all, after_batch, receiving_session, receive};
 
 use crate::index::slot_of;
 use crate::session::Session;
@@ -162,7 +161,7 @@ impl Sessions {
     // Gives each message of a batch for the session with this index and id its verdict and its skip, over the words of the session's
     // slot, which are lent on by themselves: the session afterwards and what its messages brought about. Turned down by 2 for a store not of 1,024 words or lists that make no batch, then by 12 where there
     // is no such session or it is expired.
-    #[tactic(auto, using(crate::proofs::Words::part_is), unfolding(crate::specs::Batch::receive, base::specs::Choice::choose, base::specs::Choice::case_option))]
+    #[tactic(auto, unfolding(crate::specs::Batch::receive, base::specs::Choice::choose, base::specs::Choice::case_option))]
     pub fn receive(
         self,
         store: &mut [u64],

@@ -11,7 +11,7 @@ use error::Error;
 pub const REJECT_AFTER_MESSAGES: u64 = window::REJECT_AFTER_MESSAGES;
 
 // The send counter from which a session is to be replaced: 2^60 messages.
-pub const REKEY_AFTER_MESSAGES: u64 = 1152921504606846976;
+pub const REKEY_AFTER_MESSAGES: u64 = 1 << 60;
 
 // The age at which the initiator replaces a session that has sent data: 120 s in nanoseconds.
 pub const REKEY_AFTER_TIME: u64 = 120_000_000_000;

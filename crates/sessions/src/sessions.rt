@@ -1,7 +1,7 @@
 // A ring of recent sessions, each in the slot of its local index modulo 8.
-ghost use Rattle.std.specs.Prelude.{◌≡◌, ◌<◌, length};
+ghost use Rattle.std.specs.Prelude.{◌≡◌};
 ghost use Rattle.sessions.specs.Store.{Leaves};
-ghost use Rattle.sessions.specs.Sessions.{TimesWithin, new_sessions, in_slot_of, get, put, current_of, in_current_slot, ahead, next_index, insert, usable, sending_session, is_index, select, set_current, clear, emptied, expired_slot, none_expired, discard, expiring, expire_slot, expire, is_empty, slot_expiry, next_expiry, last_heard, missing};
+ghost use Rattle.sessions.specs.Sessions.{TimesWithin, new_sessions, in_slot_of, get, put, current_of, in_current_slot, ahead, next_index, insert, sending_session, set_current, clear, none_expired, expire, is_empty, next_expiry, last_heard, missing};
 
 use crate::index::{slot_of, wrapping_increment};
 use crate::session::{Role, Session, earlier};
@@ -9,7 +9,7 @@ use crate::store::{STORE_WORDS, missing_of, words_of, zero_slot};
 use error::Error;
 
 // The slots of a ring.
-const N_SESSIONS: usize = 8;
+pub(crate) const N_SESSIONS: usize = 8;
 
 // The slots, the selected index and the two counts that give a new session its local index and its id.
 #[derive(Clone, Copy, PartialEq, Eq)]
@@ -188,7 +188,7 @@ impl Sessions {
     }
 
     // Empties every slot and zeroes the store. A store not of 1,024 words leaves all as it is.
-    #[tactic(auto, using(crate::proofs::Words::left_so, crate::proofs::Slots::cleared), unfolding(crate::specs::Sessions::clear, base::specs::Choice::choose))]
+    #[tactic(auto, using(crate::proofs::Slots::cleared), unfolding(crate::specs::Sessions::clear, base::specs::Choice::choose))]
     pub fn clear(self, store: &mut [u64]) -> Sessions
         ensures { Leaves result (clear self store.old).sessions store.new (clear self store.old).store }
     {
@@ -204,7 +204,7 @@ impl Sessions {
     }
 
     // Discards every session past `REJECT_AFTER_TIME`. A store not of 1,024 words leaves all as it is.
-    #[tactic(auto, using(crate::proofs::Slots::gone_ends, crate::proofs::Words::left_so), unfolding(crate::specs::Sessions::expire, crate::specs::Sessions::expire_first, base::specs::Choice::choose))]
+    #[tactic(auto, unfolding(crate::specs::Sessions::expire, crate::specs::Sessions::expire_first, base::specs::Choice::choose))]
     pub fn expire(mut self, store: &mut [u64], now: u64) -> Expired
         ensures { Leaves result (expire self store.old now).expired store.new (expire self store.old now).store }
     {
@@ -237,7 +237,6 @@ impl Sessions {
     }
 
     // Whether no session is past `REJECT_AFTER_TIME`.
-    #[tactic(auto, unfolding(base::specs::First::none_of, base::specs::Choice::choose, crate::specs::Sessions::expired_slot, crate::specs::Session::empty_session, crate::specs::Session::new_session))]
     pub fn none_expired(self, now: u64) -> bool
         ensures { result ≡ none_expired self now }
     {
@@ -271,7 +270,7 @@ impl Sessions {
     }
 
     // The number of counters not committed to the session with this index, among the last 8,192 below the next expected one or among all where there are fewer.
-    #[tactic(auto, using(crate::proofs::Words::part_is, crate::proofs::Words::slot_long), unfolding(crate::specs::Sessions::missing, base::specs::Choice::choose, base::specs::Choice::case_option))]
+    #[tactic(auto, using(crate::proofs::Words::part_is), unfolding(crate::specs::Sessions::missing, base::specs::Choice::choose, base::specs::Choice::case_option))]
     pub fn missing(self, store: &[u64], index: u32) -> Result<u64, Error>
         ensures { result ≡ missing self store.now index }
     {

@@ -1,18 +1,19 @@
 // The store of the windows' words, which the caller lends: 1,024 words, of which slot k has the 128 from 128 * k on.
 ghost use Rattle.std.specs.Prelude.{◌≡◌, ◌+◌, ◌*◌, ◌/◌, ◌%◌, ◌<◌, ◌≤◌, length, sum_by, count_ones};
 ghost use Rattle.base.specs.Lists.{zeros};
-ghost use Rattle.sessions.specs.Store.{put_slot, Counted, missing_of};
+ghost use Rattle.sessions.specs.Store.{put_slot, missing_of};
 
+use crate::sessions::N_SESSIONS;
 use std::ops::Range;
 
 // The words of a window.
 const N_WORDS: usize = 128;
 
 // The words of a store.
-pub(crate) const STORE_WORDS: usize = 1024;
+pub(crate) const STORE_WORDS: usize = N_SESSIONS * N_WORDS;
 
 // The counters that a window spans.
-const N_BITS: u64 = 8192;
+const N_BITS: u64 = 64 * N_WORDS as u64;
 
 // Zeroes every word.
 #[tactic(auto, unfolding(base::specs::Lists::zeros))]

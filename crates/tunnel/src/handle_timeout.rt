@@ -55,18 +55,26 @@ impl Control {
         self
     }
 
-    // Queues a keepalive if there is a session for it. It starts no handshake and waits for none.
-    fn queue_keepalive(self, now: u64) -> Control
+    // Queues a keepalive if there is a session for it, by the steps of `encrypt_keepalive`, whose call copies the control twice more. It
+    // starts no handshake and waits for none.
+    #[tactic(auto, unfolding(crate::specs::HandleTimeout::queue_keepalive, crate::specs::Encapsulate::encrypt_keepalive, crate::specs::Control::queueing, base::specs::Choice::case_option, base::specs::Choice::case_pair))]
+    fn queue_keepalive(mut self, now: u64) -> Control
         requires { RingWithin self.events }
         ensures { result ≡ queue_keepalive self now }
     {
-        let encrypted = self.encrypt_keepalive(now);
-        let Some((peer, counter)) = encrypted.keepalive else {
-            return encrypted.control;
+        let reserved = self
+            .sessions
+            .sending_session(now)
+            .and_then(|session| session.reserve_counters(1));
+        let Some((counter, counted)) = reserved else {
+            return self;
         };
-        encrypted
-            .control
-            .push_back(Event::SendKeepalive(peer, counter))
+        self.sessions = self.sessions.put(counted);
+        self.timers = self.timers.tick_last_packet_sent(now);
+        self.events = self
+            .events
+            .push_back(Event::SendKeepalive(counted.sending_index, counter));
+        self
     }
 
     // Whether a keepalive is due.

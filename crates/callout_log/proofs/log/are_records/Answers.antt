@@ -2,7 +2,7 @@ use Rattle.std.proofs.Common.{◌+◌, ◌*◌, ◌∙◌, refl, arith, rules, t
 use Rattle.std.proofs.lemmas.Iterator.{YieldsList-from_range}
 use Rattle.std.proofs.lemmas.Iterator.Search.{all_from_yields_List}
 use Rattle.callout_log.specs.Record.{is_record}
-use Rattle.callout_log.proofs.Checks.{all_places}
+use Rattle.callout_log.proofs.Places.{all_places}
 use Rattle.callout_log.proofs.log.are_records.Goals as goal
 
 pub returns : goal.returns

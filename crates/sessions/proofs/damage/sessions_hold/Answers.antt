@@ -10,4 +10,4 @@ pub returns : goal.returns
 returns c =
     all_from_yields_List (λ p. slot_holds p.1 p.0 c.args.greatest) _ _ c.all.result c.all.ensures.ran
     (YieldsList-from_enumerate (YieldsList-from_slice c.args.sessions.slots (cc)) (cc)) (λ x b q k. search (rules, tests))
-    ∙ all_hold c.args.sessions c.args.greatest (search rules)
+    ∙ all_hold c.args.sessions (search rules) c.args.greatest

@@ -10,4 +10,4 @@ returns c =
     ap not
     (any_from_yields_List (λ x. x.filled && expired_at x c.args.now) _ _ c.any.result c.any.ensures.ran
     (YieldsList-from_slice c.args.self.slots (cc)) (λ x b q k. search (rules, tests)))
-    ∙ none_due c.args.self c.args.now (search rules)
+    ∙ none_due c.args.self (search rules) c.args.now

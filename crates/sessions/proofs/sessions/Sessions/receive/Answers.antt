@@ -1,10 +1,11 @@
 use Rattle.std.proofs.Common.{◌≡◌, ◌∙◌, sym, length, rules}
-use Rattle.sessions.proofs.Batches.{received}
-use Rattle.sessions.proofs.Turned.{fits_long}
+use Rattle.sessions.proofs.Batches.{fits_batch, received}
 use Rattle.sessions.proofs.sessions.Sessions.receive.Goals as goal
 
 pub finish_all-progress-requires : goal.finish_all-progress-requires
-finish_all-progress-requires c = fits_long _ _ _ _ (sym c.fits.ensures ∙ c.if-not-fits.false)
+finish_all-progress-requires c =
+    let batch = fits_batch _ _ _ _ (sym c.fits.ensures ∙ c.if-not-fits.false) in
+    (batch.kinds_long, batch.verdicts_long, batch.skips_long)
 
 pub returns : goal.returns
 returns c =
