@@ -1,4 +1,4 @@
--- Some tunnel grown from a creation that is not turned down is sound, and has no current session if it is expired.
+-- Every tunnel grown from a creation that is not turned down is sound, and has no current session if it is expired.
 -- Assumes nothing.
 use mathlib.Core.Path.{refl, sym, subst}
 use mathlib.Core.List.{List, [], ◌∷◌}

@@ -91,7 +91,7 @@ not_got s index none =
     λ f n. none (slot_at s (slot_of index)) (record { stored = refl; filled = f; named = n }) in
     grind (arith, nat_tests, apart)
 
--- what the cases find
+-- what the lookups find
 pub lookup_law : (s : Sessions) → LookupLaw s
 unfolding in_slot_of get current_of sending_session usable sending_counter_exhausted expired_at should_use_at receiving_session last_heard case_role case_option choose
 lookup_law s =

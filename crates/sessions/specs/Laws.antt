@@ -1,4 +1,4 @@
--- What follows from the definitions: what the cases find, which slots a call touches, how many words it leaves, which index is told ahead and
+-- What follows from the definitions: what the lookups find, which slots a call touches, how many words it leaves, which index is told ahead and
 -- allocated, which lists make a batch, what a batch leaves that is turned down or empty, when a session was last heard, which numbers an early
 -- look gives, which counters a missing report counts, which are left to grant, and how a range is cut.
 use Rattle.std.specs.Prelude.{◌≡◌, ℕ, ◌+◌, ◌-◌, ◌/◌, ◌%◌, ◌^◌, ◌<◌, ◌≤◌, min, Bool, true, false, ◌⊎◌, List, [], ◌∷◌, ◌++◌, length, ◌==◌, ◌≢◌, slice_index, Err, None, Ok, Some}
@@ -92,7 +92,7 @@ pub record MaySend (x : Session) (now : ℕ) : Type 0 where
 pub record EmptyLaw : Type 0 where
   pub unfilled : (x : Session) → x ≡ empty_session → x.filled ≢ true
 
--- What the cases find:
+-- What the lookups find:
 pub record LookupLaw (s : Sessions) : Type 0 where
   -- by an index, the session that fills its slot and has this index
   pub found : (index : ℕ) (x : Session) → get s index ≡ Some x → InSlot s index x

@@ -1,4 +1,4 @@
--- Some step of the timers, the handshake and the ring keeps the facts of number 14.
+-- Every step of the timers, the handshake and the ring keeps the facts of number 14.
 -- Assumes nothing.
 use mathlib.Core.Path.{◌≡◌, refl}
 use mathlib.Core.Bool.{Bool, true, false}

@@ -1,4 +1,4 @@
--- Some operation keeps a sound control sound.
+-- Every operation keeps a sound control sound.
 -- Assumes nothing.
 use mathlib.Core.Path.{◌≡◌, refl, sym, ◌∙◌}
 use mathlib.Core.Bool.{Bool, true, false, true≢false}

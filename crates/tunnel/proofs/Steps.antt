@@ -1,4 +1,4 @@
--- Some step of the operations keeps the facts of number 14, and the ring of events in range.
+-- Every step of the operations keeps the facts of number 14, and the ring of events in range.
 -- Assumes nothing.
 use mathlib.Core.Path.{◌≡◌, refl}
 use mathlib.Core.Bool.{true}

@@ -1,4 +1,4 @@
--- Some operation and every call hands a store of 1,024 words back with so many.
+-- Every operation and every call hands a store of 1,024 words back with so many.
 -- Assumes nothing.
 use mathlib.Core.Path.{◌≡◌}
 use mathlib.Core.List.{List}

@@ -96,7 +96,7 @@ pub record AfterStates (t : Tunnel) (store : List ℕ) : Type 0 where
       → ((call_new store index keepalive now).answered.tunnel ≡ (call_new (zeros 1024) 0 0 0).answered.tunnel)
       × ((call_new store index keepalive now).store ≡ store)
 
--- Some call with a time that is not turned down, save the early look, leaves the greatest time at its own.
+-- Every call with a time that is not turned down, save the early look, leaves the greatest time at its own.
 pub record GreatestLaw (t : Tunnel) (store : List ℕ) : Type 0 where
   pub new : (index keepalive now : ℕ) → number_of (call_new store index keepalive now).answered.answer ≡ 0
       → (call_new store index keepalive now).answered.tunnel.greatest ≡ now
@@ -158,7 +158,7 @@ pub record EventLaw (t : Tunnel) : Type 0 where
 abbrev pub NoneCurrent : Tunnel → Type 0
 NoneCurrent t = IsExpired t → current_of t.control.sessions ≡ None
 
--- Some call that is handed a tunnel which, if expired, has no current session hands back such a one, and so does a creation.
+-- Every call that is handed a tunnel which, if expired, has no current session hands back such a one, and so does a creation.
 pub record ExpiredLaw (t : Tunnel) (store : List ℕ) : Type 0 where
   pub new : (index keepalive now : ℕ) → NoneCurrent (call_new store index keepalive now).answered.tunnel
   pub start : (now : ℕ) → NoneCurrent (call_start t now).tunnel

@@ -11,7 +11,7 @@ pub record Sound (t : Tunnel) : Type 0 where
   pub eight : length t.control.sessions.slots ≡ 8
   pub sixteen : length t.control.events.slots ≡ 16
 
--- Some call that is handed a sound tunnel hands back a sound one, turned down or not.
+-- Every call that is handed a sound tunnel hands back a sound one, turned down or not.
 pub record SoundLaw (t : Tunnel) : Type 0 where
   pub start : (now : ℕ) → Sound (call_start t now).tunnel
   pub restart : (now : ℕ) → Sound (call_restart t now).tunnel
@@ -28,7 +28,7 @@ pub record SoundLaw (t : Tunnel) : Type 0 where
   pub deadline : Sound (call_deadline t).tunnel
   pub missing : (store : List ℕ) (index : ℕ) → Sound (call_missing t store index).tunnel
 
--- Some call that changes the store hands it back with 1,024 words if it came with so many, whatever the tunnel.
+-- Every call that changes the store hands it back with 1,024 words if it came with so many, whatever the tunnel.
 pub record StoreLaw (t : Tunnel) (store : List ℕ) : Type 0 where
   pub receive : (index id now : ℕ) (counters kinds verdicts skips : List ℕ)
       → length (call_receive t store index id now counters kinds verdicts skips).store ≡ 1024
