@@ -44,7 +44,7 @@ impl User {
     fn is_trainer(self) -> bool
         ensures { result ≡ eqb self.kind trainer }
     {
-        self.kind == Kind::Trainer as u64
+        Kind::try_from(self.kind) == Ok(Kind::Trainer)
     }
 
     // Grants a range of counters.

@@ -83,11 +83,15 @@ fn writes(bytes: &mut [u8; 65536], turns: usize) -> u64 {
     total.wrapping_add(sum(bytes))
 }
 
-// Carries out a case over 65,536 bytes: the sum of what is read, or of the bytes that are written.
-pub fn datagrams(bytes: &mut [u8; 65536], case: u8, lengths: &[u8]) -> u64 {
-    if case == b'w' {
-        return writes(bytes, lengths.len());
-    }
-    fill(bytes);
-    reads(bytes, lengths)
+// Reads datagrams of these lengths: the sum of what is read.
+pub fn read_case(lengths: &[u8]) -> u64 {
+    let mut bytes = [0u8; 65536];
+    fill(&mut bytes);
+    reads(&bytes, lengths)
+}
+
+// Writes headers: the sum of the bytes that are written.
+pub fn write_case(turns: usize) -> u64 {
+    let mut bytes = [0u8; 65536];
+    writes(&mut bytes, turns)
 }

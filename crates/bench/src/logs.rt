@@ -10,7 +10,7 @@ use std::array;
 const INDEX_STEP: u32 = 0x01020304;
 
 // The number of records in a callout.
-fn records_of(letter: u8) -> usize
+pub fn records_of(letter: u8) -> usize
     ensures { result ≤ 2047 }
 {
     match letter {
@@ -22,7 +22,7 @@ fn records_of(letter: u8) -> usize
 }
 
 // The number of callouts in the log that is read.
-fn callouts_of(pattern: u8) -> usize {
+pub fn callouts_of(pattern: u8) -> usize {
     match pattern {
         b'c' => 1365,
         _ => 1,
@@ -93,25 +93,27 @@ fn read_case(store: &[u8], used: usize, turns: usize) -> u64 {
         .wrapping_add(sum(&verdicts))
 }
 
-// Carries out a case: the sum of what is answered and of the bytes that are written, or of the numbers that are read.
-pub fn logs(case: u8, pattern: u8, len: u8, turns: usize) -> u64 {
+// Reads a log of so many callouts, or appends one callout where no number is given, each of so many records: the sum of what is answered
+// and of the numbers that are read or the bytes that are written.
+pub fn logs(callouts: Option<usize>, records: usize, turns: usize) -> u64
+    requires { records ≤ 2047 }
+{
     let mut store = [0u8; 65536];
     let times = numbers(1_000_000_007);
     let counters = numbers(0x0102030405060708);
     let session_ids = numbers(3);
     let local_indices: [u32; 2047] = array::from_fn(|i| INDEX_STEP.wrapping_mul(i as u32));
     let verdicts: [u8; 2047] = array::from_fn(|place| [0, 7, 9, 10][place % 4]);
-    let n = records_of(len);
     let reports = Reports {
-        times: &times[..n],
-        counters: &counters[..n],
-        session_ids: &session_ids[..n],
-        local_indices: &local_indices[..n],
-        verdicts: &verdicts[..n],
+        times: &times[..records],
+        counters: &counters[..records],
+        session_ids: &session_ids[..records],
+        local_indices: &local_indices[..records],
+        verdicts: &verdicts[..records],
     };
-    if case == b'a' {
+    let Some(callouts) = callouts else {
         return appends(&mut store, reports, turns);
-    }
-    let used = write_log(&mut store, reports, callouts_of(pattern));
+    };
+    let used = write_log(&mut store, reports, callouts);
     read_case(&store, used, turns)
 }

@@ -15,10 +15,9 @@ ghost use Rattle.std.specs.Prelude.{◌≤◌};
 
 use crate::begin::{carrying, established, filled, started, weight};
 use crate::counters::fill;
-use crate::datagrams::datagrams;
 use crate::day::rounds;
 use crate::lists::Lists;
-use crate::logs::logs;
+use crate::logs::{callouts_of, logs, records_of};
 use crate::turns::{
     SECOND, deadlines, drained, events, looks, receives, reports, sends, settles, wakes,
 };
@@ -127,16 +126,17 @@ fn main(rt: HostRuntime) -> io::Result<()> {
     let count = rt.reader().read(&mut input)?;
     let mut out = io::writer(&rt);
     let asked = ask(&input[..count]);
-    match asked.case {
-        b'g' | b'w' => {
-            let mut bytes = [0u8; 65536];
-            let total = datagrams(&mut bytes, asked.case, asked.turns);
-            writeln!(out, "{total}")
-        }
-        b'a' | b'v' => {
-            let total = logs(asked.case, asked.pattern, asked.len, asked.turns.len());
-            writeln!(out, "{total}")
-        }
-        _ => tunnel_case(&mut out, asked),
-    }
+    let turns = asked.turns.len();
+    let total = match asked.case {
+        b'g' => datagrams::read_case(asked.turns),
+        b'w' => datagrams::write_case(turns),
+        b'a' => logs(None, records_of(asked.len), turns),
+        b'v' => logs(
+            Some(callouts_of(asked.pattern)),
+            records_of(asked.len),
+            turns,
+        ),
+        _ => return tunnel_case(&mut out, asked),
+    };
+    writeln!(out, "{total}")
 }

@@ -40,10 +40,7 @@ pub fn word_end(line: &[u8], from: usize) -> usize
 fn with_digit(value: u64, byte: u8) -> Option<u64>
     ensures { result ≡ with_digit value byte }
 {
-    let digit = match byte {
-        b'0'..=b'9' => byte - b'0',
-        _ => return None,
-    };
+    let digit = char::from(byte).to_digit(10)?;
     value.checked_mul(10)?.checked_add(u64::from(digit))
 }
 

@@ -1,8 +1,8 @@
 // A tunnel's control, and what an operation on it hands back.
 #![tactic(auto, unfolding(crate::specs::Control::new_control, crate::specs::Control::refuse, crate::specs::Control::done, crate::specs::Control::expired_control, crate::specs::Control::queueing, crate::specs::Control::poll_event, crate::specs::Control::missing_report, base::specs::Choice::choose, base::specs::Choice::case_result))]
 
-ghost use Rattle.std.specs.Prelude.{◌≡◌};
-ghost use Rattle.tunnel.specs.Control.{new_control, refuse, done, expired_control, queueing, poll_event, missing_report};
+ghost use Rattle.std.specs.Prelude.{◌≡◌, Ok, true, false};
+ghost use Rattle.tunnel.specs.Control.{new_control, out_of, refuse, done, expired_control, queueing, poll_event, missing_report};
 ghost use Rattle.tunnel.specs.RingBuffer.{RingWithin};
 
 use crate::answer::Answer;
@@ -72,6 +72,18 @@ impl Control {
         }
     }
 
+    // A call that is answered and does not raise the greatest time.
+    pub(crate) fn done_unraised(self, answer: Answer) -> Out
+        ensures { result ≡ out_of self (Ok answer) false false }
+    {
+        Out {
+            control: self,
+            answer: Ok(answer),
+            raises: false,
+            updates: false,
+        }
+    }
+
     // Whether the connection has expired.
     pub(crate) fn is_expired(self) -> bool
         ensures { result ≡ expired_control self }
@@ -95,12 +107,7 @@ impl Control {
     {
         let popped = self.events.pop_front();
         self.events = popped.events;
-        Out {
-            control: self,
-            answer: Ok(Answer::Polled(popped.event)),
-            raises: false,
-            updates: false,
-        }
+        self.done_unraised(Answer::Polled(popped.event))
     }
 
     // The missing report of the session with this local index.
@@ -111,11 +118,6 @@ impl Control {
             Ok(count) => count,
             Err(error) => return self.refuse(error),
         };
-        Out {
-            control: self,
-            answer: Ok(Answer::Report(count)),
-            raises: false,
-            updates: false,
-        }
+        self.done_unraised(Answer::Report(count))
     }
 }

@@ -87,11 +87,6 @@ impl Control {
         if let Err(error) = session.will_receive(store, index, counter) {
             return self.refuse(error);
         }
-        Out {
-            control: self,
-            answer: Ok(Answer::Done),
-            raises: false,
-            updates: false,
-        }
+        self.done_unraised(Answer::Done)
     }
 }

@@ -117,16 +117,8 @@ impl Timers {
         ensures { result ≡ clear_timers self now }
     {
         Timers {
-            time_last_handshake_completed: now,
-            time_last_handshake_started: now,
-            time_last_packet_received: now,
-            time_last_packet_sent: now,
-            time_last_data_packet_received: now,
-            time_last_data_packet_sent: now,
-            time_persistent_keepalive: now,
-            last_data_received_without_reply: None,
-            first_data_sent_without_reply: None,
-            ..self
+            send_handshake_at: self.send_handshake_at,
+            ..Timers::new(self.persistent_keepalive, now)
         }
     }
 
