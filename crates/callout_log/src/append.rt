@@ -79,6 +79,7 @@ fn write_records(bytes: &mut [u8], reports: Reports)
 // Appends a callout with a report for each place of the lists behind the used length of a store, of which it reads nothing, and answers
 // the new used length. Turned down by InvalidTime, by InvalidArgument for the store, the used length, the lists or a verdict, by StoreFull
 // where the free end is too short.
+#[inline]
 #[tactic(auto, using(crate::proofs::Appending::ways))]
 pub fn append(store: &mut [u8], used: usize, reports: Reports) -> Result<usize, Error>
     ensures { appending result store.new ≡ append_log store.old used (reported reports.entry) }

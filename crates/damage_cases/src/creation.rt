@@ -1,9 +1,11 @@
 // The cases of creation.
+use crate::expected::Expected;
 use crate::sound::made;
 use error::Error;
 use std::io;
 use std::io::Write;
 use tally::Tally;
+use tunnel::answer::Answer;
 use tunnel::tunnel::{TIME_LIMIT, Tunnel};
 
 // A creation over so many words that is turned down for this, with the words as they came and the tunnel of index 0.
@@ -11,7 +13,9 @@ fn turned_down(n: usize, keepalive: u64, now: u64, error: Error) -> Tally {
     let mut words = [7u64; 1025];
     let answered = Tunnel::new(&mut words[..n.min(1025)], 256, keepalive, now);
     Tally::from(
-        answered.answer == Err(error) && words == [7; 1025] && answered.tunnel == made(0, 0, 0),
+        Expected::Just(Err(error)).fits(answered.answer)
+            && words == [7; 1025]
+            && answered.tunnel == made(0, 0, 0),
     )
 }
 
@@ -19,7 +23,7 @@ fn turned_down(n: usize, keepalive: u64, now: u64, error: Error) -> Tally {
 fn created(keepalive: u64, now: u64) -> Tally {
     let mut words = [7u64; 1024];
     let answered = Tunnel::new(&mut words, u32::MAX, keepalive, now);
-    Tally::from(answered.answer.is_ok() && words == [0; 1024])
+    Tally::from(answered.answer == Ok(Answer::Done) && words == [0; 1024])
 }
 
 // Writes the groups of creation.

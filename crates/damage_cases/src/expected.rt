@@ -16,13 +16,32 @@ pub enum Expected {
     Undamaged,
 }
 
+// The number of a reason to turn a call down, 0 for one that none of these calls gives.
+fn number_of(reason: Error) -> u8 {
+    match reason {
+        Error::InvalidTime => 1,
+        Error::InvalidArgument => 2,
+        Error::WrongKey => 3,
+        Error::ReplayedHandshakeInitiation => 4,
+        Error::InitiationPredatesTunnel => 5,
+        Error::InvalidAeadTag => 7,
+        Error::ConnectionExpired => 11,
+        Error::NoCurrentSession => 12,
+        Error::ClockWentBack => 13,
+        Error::DamagedState => 14,
+        _ => 0,
+    }
+}
+
 impl Expected {
-    // Whether an answer is one that is expected.
+    // Whether an answer is one that is expected: where a call is turned down, by its number.
     pub fn fits(self, answer: Result<Answer, Error>) -> bool {
-        match self {
-            Expected::Just(expected) => answer == expected,
-            Expected::Answered => answer.is_ok(),
-            Expected::Undamaged => answer != Err(Error::DamagedState),
+        match (self, answer) {
+            (Expected::Just(Err(reason)), Err(error)) => error.number() == number_of(reason),
+            (Expected::Just(expected), _) => answer == expected,
+            (Expected::Answered, _) => answer.is_ok(),
+            (Expected::Undamaged, Err(error)) => error.number() != 14,
+            (Expected::Undamaged, Ok(_)) => true,
         }
     }
 

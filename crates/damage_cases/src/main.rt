@@ -1,7 +1,8 @@
 // Damaged tunnels and arguments out of range: a damaged tunnel for each clause of number 14, and each call with it; stores and lists
 // of wrong length, a header's too; what number 14 does not look at; the order of the checks; batches that find no live session; and
-// missing reports over any words. A call that is turned down, and a report, must hand everything back as it came: the tunnel is compared
-// field by field, the store and the verdicts element by element. Lists that are lent for reading only cannot change.
+// missing reports over any words. A call that is turned down must give its number and hand everything back as it came: the tunnel, the
+// store, the verdicts and the skips are compared. A report hands back the tunnel and the store. Lists that are lent for reading only
+// cannot change.
 #![tactic(auto)]
 
 mod arguments;

@@ -101,12 +101,15 @@ impl Ones {
         }
     }
 
-    // Whether the report of a slot's session with this next counter counts the missing ones and leaves the tunnel as it came.
+    // Whether the report of a slot's session with this next counter counts the missing ones and leaves the tunnel and the store as they
+    // came.
     fn right(self, slot: u8, index: u32, next: u64) -> bool {
         let tunnel = in_slot(slot, |session| session.next = next);
         let words: [u64; 1024] = array::from_fn(|place| self.word(place as u64, slot, next));
         let answered = tunnel.missing(&words, index);
-        answered.answer == Ok(Answer::Report(self.missing(next))) && answered.tunnel == tunnel
+        answered.answer == Ok(Answer::Report(self.missing(next)))
+            && answered.tunnel == tunnel
+            && words == array::from_fn(|place| self.word(place as u64, slot, next))
     }
 
     // Every next counter of each filled slot.

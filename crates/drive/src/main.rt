@@ -10,11 +10,12 @@ use std::io::{Read, Write};
 use text::gather::Gathered;
 use text::text::Output;
 
-// What stands between input and output: the line that has begun, what the lines before it have brought about, and the answers that wait
-// to be written out.
+// What stands between input and output: the line that has begun, with the buffer that it stands in, what the lines before it have brought
+// about, and the answers that wait to be written out.
 #[derive(Drop)]
 struct Console<'a> {
-    gathered: Gathered<'a>,
+    line: [u8; 65536],
+    gathered: Gathered,
     state: State,
     output: Output<'a>,
 }
@@ -40,7 +41,8 @@ impl Console<'_> {
         if self.output.at > 65536 {
             self.flush(writer)?;
         }
-        self.state.answer(self.gathered.line(), &mut self.output);
+        self.state
+            .answer(self.gathered.line(&self.line), &mut self.output);
         self.gathered.clear();
         Ok(())
     }
@@ -50,10 +52,10 @@ impl Console<'_> {
         for part in input.split_inclusive(|byte| *byte == b'\n') {
             match part.strip_suffix(b"\n") {
                 Some(end) => {
-                    self.gathered.append(end);
+                    self.gathered.append(&mut self.line, end);
                     self.end_line(writer)?;
                 }
-                None => self.gathered.append(part),
+                None => self.gathered.append(&mut self.line, part),
             }
         }
         Ok(())
@@ -85,10 +87,10 @@ impl Console<'_> {
 
 fn main(rt: HostRuntime) -> io::Result<()> {
     let mut input = [0u8; 65536];
-    let mut line = [0u8; 65536];
     let mut out = [0u8; 262144];
     let mut console = Console {
-        gathered: Gathered::new(&mut line),
+        line: [0; 65536],
+        gathered: Gathered::new(),
         state: State::new(),
         output: Output {
             buffer: &mut out,

@@ -1,6 +1,6 @@
 // The cases of appending. Each store has 165s before the call.
 use crate::lists::{
-    COUNTERS, LOCAL_INDICES, Lengths, SESSION_IDS, TIME_LIMIT, TIMES, VERDICTS, equal,
+    COUNTERS, LOCAL_INDICES, Lengths, SESSION_IDS, TIME_LIMIT, TIMES, VERDICTS, equal, fits,
 };
 use callout_log::append::{Reports, append};
 use error::Error;
@@ -65,7 +65,7 @@ fn holds(
     let lent = size.min(store.len());
     let answer = callout.append(&mut store[..lent], used);
     match expected {
-        Err(error) => answer == Err(error) && are_kept(store),
+        Err(error) => fits(answer, Err(error)) && are_kept(store),
         Ok(()) => {
             let end = used.wrapping_add(16 + 32 * callout.lengths.times.min(8));
             let before = used.min(store.len());

@@ -1,4 +1,5 @@
-// The lists that are lent: eight elements each, of which a call gets the first ones.
+// The lists that are lent, eight elements each, of which a call gets the first ones; and whether an answer is the one that is expected.
+use error::Error;
 
 // The greatest time of a record.
 pub const TIME_LIMIT: u64 = 4_000_000_000_000_000_000;
@@ -17,6 +18,26 @@ pub const LOCAL_INDICES: [u32; 8] = [u32::MAX, 0, 11, 12, 4, 5, 6, 165];
 
 // Their verdicts.
 pub const VERDICTS: [u8; 8] = [10, 0, 7, 9, 0, 7, 9, 165];
+
+// The number of a reason to turn a call down, 0 for one that neither call gives.
+fn number_of(reason: Error) -> u8 {
+    match reason {
+        Error::InvalidTime => 1,
+        Error::InvalidArgument => 2,
+        Error::BrokenTrailer => 17,
+        Error::BrokenRecord => 18,
+        Error::StoreFull => 19,
+        _ => 0,
+    }
+}
+
+// Whether an answer is the one that is expected: where a call is turned down, by its number.
+pub fn fits(answer: Result<usize, Error>, expected: Result<usize, Error>) -> bool {
+    match (answer, expected) {
+        (Err(error), Err(reason)) => error.number() == number_of(reason),
+        _ => answer == expected,
+    }
+}
 
 // How many elements of each list are lent.
 #[derive(Clone, Copy)]

@@ -1,6 +1,6 @@
 // The cases of reading. The log has three callouts, oldest first: one record in 48 bytes, none in 16, and three in 112.
 use crate::appending::append_records;
-use crate::lists::{COUNTERS, LOCAL_INDICES, Lengths, SESSION_IDS, TIMES, VERDICTS, equal};
+use crate::lists::{COUNTERS, LOCAL_INDICES, Lengths, SESSION_IDS, TIMES, VERDICTS, equal, fits};
 use callout_log::read::{Lists, read};
 use error::Error;
 use std::io;
@@ -75,7 +75,7 @@ fn holds(store: &[u8], used: usize, lengths: Lengths, answer: Result<usize, Erro
         local_indices,
         verdicts,
     };
-    answered == answer && held == held_after(answer)
+    fits(answered, answer) && held == held_after(answer)
 }
 
 // Writes the log to the front of a store.

@@ -28,6 +28,15 @@ fn kind_of(word: &[u8]) -> Result<u8, Error> {
 }
 
 impl Batch {
+    // No message.
+    pub(crate) fn new() -> Batch {
+        Batch {
+            counters: [0; MESSAGES],
+            kinds: [0; MESSAGES],
+            len: 0,
+        }
+    }
+
     // Adds a message while there is room.
     fn push(&mut self, counter: u64, kind: u8) {
         if self.len < MESSAGES {
@@ -37,18 +46,14 @@ impl Batch {
         }
     }
 
-    // Reads the messages to the line's end.
-    pub(crate) fn read(mut words: Words) -> Result<Batch, Error> {
-        let mut batch = Batch {
-            counters: [0; MESSAGES],
-            kinds: [0; MESSAGES],
-            len: 0,
-        };
+    // Reads the messages to the line's end, in place of those before.
+    pub(crate) fn read(&mut self, mut words: Words) -> Result<(), Error> {
+        self.len = 0;
         while !words.is_empty() {
             let counter = words.number()?;
             let kind = kind_of(words.word()?)?;
-            batch.push(counter, kind);
+            self.push(counter, kind);
         }
-        Ok(batch)
+        Ok(())
     }
 }

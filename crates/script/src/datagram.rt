@@ -46,9 +46,12 @@ fn put_message(out: &mut Output, message: ReceivedMessage, part: &[u8]) {
 }
 
 // Reads a datagram.
-pub(crate) fn datagram(words: Words, out: &mut Output) -> Result<(), Error> {
-    let mut bytes = [0u8; BYTES];
-    let len = words.last_bytes(&mut bytes)?;
+pub(crate) fn datagram(
+    words: Words,
+    bytes: &mut [u8; BYTES],
+    out: &mut Output,
+) -> Result<(), Error> {
+    let len = words.last_bytes(bytes)?;
     let datagram = &bytes[..len];
     put_message(out, read_datagram(datagram)?, encrypted_part(datagram));
     Ok(())

@@ -10,12 +10,13 @@ use text::text::Output;
 // The bytes that the log has room for.
 const BUFFER: usize = 70000;
 
-// The log: the first bytes of a buffer, and the used length that the calls are handed.
+// The log: the first bytes of a buffer, and the used length that the calls are handed; and room for the reports of a line.
 #[derive(Drop)]
 pub(crate) struct Log {
     buffer: [u8; BUFFER],
     size: usize,
     used: usize,
+    reports: ReportLists,
 }
 
 impl Log {
@@ -25,6 +26,7 @@ impl Log {
             buffer: [0; BUFFER],
             size: 65536,
             used: 0,
+            reports: ReportLists::new(),
         }
     }
 
@@ -61,10 +63,14 @@ impl Log {
     }
 
     // Writes bytes at a place of the store, where they fit in it.
-    pub(crate) fn poke(&mut self, mut words: Words, out: &mut Output) -> Result<(), Error> {
+    pub(crate) fn poke(
+        &mut self,
+        mut words: Words,
+        bytes: &mut [u8; BYTES],
+        out: &mut Output,
+    ) -> Result<(), Error> {
         let at = words.number()? as usize;
-        let mut bytes = [0u8; BYTES];
-        let len = words.last_bytes(&mut bytes)?;
+        let len = words.last_bytes(bytes)?;
         let store = self.store_mut();
         if at > store.len() || len > store.len() - at {
             return Err(Error::InvalidArgument);
@@ -88,9 +94,10 @@ impl Log {
 
     // Appends a callout.
     pub(crate) fn append(&mut self, words: Words, out: &mut Output) -> Result<(), Error> {
-        let lists = ReportLists::read(words)?;
-        let used = self.used;
-        self.used = append(self.store_mut(), used, lists.reports())?;
+        self.reports.read(words)?;
+        let size = self.size.min(BUFFER);
+        let store = &mut self.buffer[..];
+        self.used = append(&mut store[..size], self.used, self.reports.reports())?;
         put_words(out, b"ok used", &[self.used as u64]);
         Ok(())
     }

@@ -22,6 +22,18 @@ pub(crate) struct ReportLists {
 }
 
 impl ReportLists {
+    // No report.
+    pub(crate) fn new() -> ReportLists {
+        ReportLists {
+            times: [0; REPORTS],
+            counters: [0; REPORTS],
+            session_ids: [0; REPORTS],
+            local_indices: [0; REPORTS],
+            verdicts: [0; REPORTS],
+            len: 0,
+        }
+    }
+
     // Reads one more report, and keeps it while there is room. A verdict above 255 is kept as 255, which is none either.
     fn read_report(&mut self, words: &mut Words) -> Result<(), Error>
         ensures { OnOk result (Further words.old words.new) }
@@ -43,20 +55,13 @@ impl ReportLists {
         Ok(())
     }
 
-    // Reads the reports to the line's end.
-    pub(crate) fn read(mut words: Words) -> Result<ReportLists, Error> {
-        let mut lists = ReportLists {
-            times: [0; REPORTS],
-            counters: [0; REPORTS],
-            session_ids: [0; REPORTS],
-            local_indices: [0; REPORTS],
-            verdicts: [0; REPORTS],
-            len: 0,
-        };
+    // Reads the reports to the line's end, in place of those before.
+    pub(crate) fn read(&mut self, mut words: Words) -> Result<(), Error> {
+        self.len = 0;
         while !words.is_empty() {
-            lists.read_report(&mut words)?;
+            self.read_report(&mut words)?;
         }
-        Ok(lists)
+        Ok(())
     }
 
     // The reports.

@@ -8,20 +8,23 @@ use crate::batch::{Batch, MESSAGES};
 use crate::datagram::{datagram, header};
 use crate::log::Log;
 use crate::skips::Skips;
-use crate::words::Words;
+use crate::words::{BYTES, Words};
 use error::Error;
 use sessions::range::Range;
 use text::text::Output;
 use tunnel::answer::Answer;
 use tunnel::tunnel::{Answered, Tunnel};
 
-// The tunnel, once a line has made one, with the store of its windows; the skips of its last good batch; and the log.
+// The tunnel, once a line has made one, with the store of its windows; the skips of its last good batch; the log; and room for the
+// messages or the bytes of a line.
 #[derive(Drop)]
 pub struct State {
     tunnel: Option<Tunnel>,
     store: [u64; 1024],
     skips: Skips,
     log: Log,
+    batch: Batch,
+    bytes: [u8; BYTES],
 }
 
 // Tells when the session with an index was last heard.
@@ -63,6 +66,8 @@ impl State {
             store: [0; 1024],
             skips: Skips::new(),
             log: Log::new(),
+            batch: Batch::new(),
+            bytes: [0; BYTES],
         }
     }
 
@@ -88,8 +93,8 @@ impl State {
         let index = words.index()?;
         let session = words.number()?;
         let time = words.number()?;
-        let batch = Batch::read(words)?;
-        let n = batch.len;
+        self.batch.read(words)?;
+        let n = self.batch.len;
         let mut verdicts = [0u8; MESSAGES];
         let skips = &mut self.skips.list[..];
         let answered = tunnel.receive(
@@ -97,8 +102,8 @@ impl State {
             index,
             session,
             time,
-            &batch.counters[..n],
-            &batch.kinds[..n],
+            &self.batch.counters[..n],
+            &self.batch.kinds[..n],
             &mut verdicts[..n],
             &mut skips[..n],
         );
@@ -171,11 +176,11 @@ impl State {
             b"heard" => heard(tunnel, words, out),
             b"ahead" => ahead(tunnel, words, out),
             b"split" => split(words, out),
-            b"datagram" => datagram(words, out),
+            b"datagram" => datagram(words, &mut self.bytes, out),
             b"header" => header(words, out),
             b"store" => self.log.set_store(words, out),
             b"used" => self.log.set_used(words, out),
-            b"poke" => self.log.poke(words, out),
+            b"poke" => self.log.poke(words, &mut self.bytes, out),
             b"peek" => self.log.peek(words, out),
             b"append" => self.log.append(words, out),
             b"walk" => self.log.walk(words, out),

@@ -1,9 +1,25 @@
 // Bytes in hexadecimal digits: two for a byte, the high digit first, and `-` for no bytes.
-ghost use Rattle.std.specs.Prelude.{◌≡◌, [], ◌∷◌, ◌/◌, ◌%◌, ◌<◌, ◌≤◌, IfSome, length, is_some};
+ghost use Rattle.std.specs.Prelude.{◌≡◌, [], ◌∷◌, ◌/◌, ◌%◌, ◌<◌, ◌≤◌, IfSome, IsSome, Some, length, is_some};
 ghost use Rattle.text.specs.Hex.{Reads, HexReadsBack, digit_value, byte_of, pair_bytes, read_hex, hex_digit, hex_of};
 ghost use Rattle.text.specs.Text.{Prints};
 
 use crate::text::Output;
+
+// The value of a byte that is a hexadecimal digit.
+#[tactic(auto, using(base::proofs::Choice::picks), unfolding(crate::specs::Hex::digit_value))]
+fn value_of(digit: u8) -> u8
+    requires { IsSome (digit_value digit) }
+    ensures value { Some result ≡ digit_value digit }
+    ensures below { result < 16 }
+{
+    if digit <= b'9' {
+        digit - b'0'
+    } else if digit <= b'F' {
+        digit - b'A' + 10
+    } else {
+        digit - b'a' + 10
+    }
+}
 
 // The value of a hexadecimal digit, in either case.
 #[tactic(auto, using(base::proofs::Choice::picks), unfolding(crate::specs::Hex::digit_value))]
@@ -12,9 +28,7 @@ fn digit_value(byte: u8) -> Option<u8>
     ensures below { IfSome result (λ v. v < 16) }
 {
     match byte {
-        b'0'..=b'9' => Some(byte - b'0'),
-        b'A'..=b'F' => Some(byte - b'A' + 10),
-        b'a'..=b'f' => Some(byte - b'a' + 10),
+        b'0'..=b'9' | b'A'..=b'F' | b'a'..=b'f' => Some(value_of(byte)),
         _ => None,
     }
 }
@@ -25,6 +39,15 @@ fn byte_of(high: u8, low: u8) -> Option<u8>
     ensures { result ≡ byte_of high low }
 {
     Some(digit_value(high)? * 16 + digit_value(low)?)
+}
+
+// The byte of two bytes that are hexadecimal digits.
+#[tactic(auto, using(base::proofs::Choice::cases), unfolding(crate::specs::Hex::byte_of, base::specs::Choice::case_option))]
+fn pair_value(high: u8, low: u8) -> u8
+    requires { IsSome (byte_of high low) }
+    ensures { Some result ≡ byte_of high low }
+{
+    value_of(high) * 16 + value_of(low)
 }
 
 // Whether a word is pairs of hexadecimal digits.
@@ -51,7 +74,7 @@ fn read_pairs(word: &[u8], bytes: &mut [u8]) -> Option<usize>
         return None;
     }
     for i in 0..len {
-        bytes[i] = byte_of(word[2 * i], word[2 * i + 1]).unwrap();
+        bytes[i] = pair_value(word[2 * i], word[2 * i + 1]);
     }
     Some(len)
 }

@@ -38,6 +38,7 @@ computed =
       restart = refl;
       initiation = refl;
       failed = refl;
+      failed_by = refl;
       spent = refl;
       due = record { living = λ e. let z : ◌≡◌ {A = ℕ} 0 1 = cc in omega arith; at = 5; scheduled = refl; come = omega arith };
       woken = refl;

@@ -16,6 +16,7 @@ use Rattle.tunnel.proofs.Framed.{gate_onward, gate_now, gate_good, gate_whole, s
 use Rattle.tunnel.proofs.Numbers.{first_numbers}
 use Rattle.tunnel.proofs.Queue.{queue_of_newest}
 use Rattle.tunnel.proofs.Quiet.{wake_quiet}
+use Rattle.tunnel.proofs.Refusals.{refusal_numbers}
 use Rattle.tunnel.proofs.Responses.{keepalive_sent, confirming_sessions, response_current, response_good}
 use Rattle.tunnel.proofs.Ahead.{new_gives, call_start_gives, call_restart_gives, initiation_gives, initiation_failed_lem, initiation_refused, waking_gives, waking_unsent}
 use Rattle.tunnel.proofs.AheadExample.{computed}
@@ -34,6 +35,7 @@ use Rattle.tunnel.specs.Ahead.{last_index, AheadLaw, AheadExample}
 use Rattle.tunnel.specs.Laws.{GateLaw, setting_of, SettingLaw, establishing, confirmed_by, ResponseLaw}
 use Rattle.tunnel.specs.Numbers.{NumbersLaw}
 use Rattle.tunnel.specs.Quiet.{QuietLaw}
+use Rattle.tunnel.specs.Refusals.{RefusalsLaw}
 use Rattle.tunnel.specs.RingBuffer.{QueueOfNewest}
 use Rattle.tunnel.specs.Settled.{SettleLaw, SettleExample}
 use Rattle.tunnel.specs.Sound.{Sound, SoundLaw, StoreLaw, CreatedLaw}
@@ -169,6 +171,10 @@ ahead_example = computed
 -- the number that turns a call down
 pub numbers_law : (t : Tunnel) (store : List ℕ) → NumbersLaw t store
 numbers_law = first_numbers
+
+-- the number that turns down a handshake message or an early look
+pub refusals_law : (t : Tunnel) (store : List ℕ) → RefusalsLaw t store
+refusals_law = refusal_numbers
 
 -- an expired tunnel has no current session
 pub expired_law : (t : Tunnel) (store : List ℕ) → NoneCurrent t → ExpiredLaw t store

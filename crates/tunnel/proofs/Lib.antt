@@ -19,6 +19,7 @@ pub mod Opened
 pub mod Queue
 pub mod QueueLoop
 pub mod Quiet
+pub mod Refusals
 pub mod Repeated
 pub mod Responses
 pub mod SettleExample

@@ -99,7 +99,8 @@ pub record AheadExample : Type 0 where
   pub start : (call_start scheduled_tunnel 7).answer ≡ Ok (Initiation 257)
   pub restart : (call_restart scheduled_tunnel 7).answer ≡ Ok (Initiation 257)
   pub initiation : (call_initiation scheduled_tunnel (zeros 1024) 9 0 7).answered.answer ≡ Ok (Response 257 9)
-  pub failed : (call_initiation scheduled_tunnel (zeros 1024) 9 3 7).answered.answer ≡ Err WrongKey
+  pub failed : number_of (call_initiation scheduled_tunnel (zeros 1024) 9 3 7).answered.answer ≡ 3
+  pub failed_by : (call_initiation scheduled_tunnel (zeros 1024) 9 3 7).answered.answer ≡ Err WrongKey
   pub spent : last_index (call_initiation scheduled_tunnel (zeros 1024) 9 3 7).answered.tunnel ≡ 257
   pub due : HandshakeDue scheduled_tunnel 7
   pub woken : (call_timeout scheduled_tunnel (zeros 1024) 0 7).answered.answer ≡ Ok NoAnswer

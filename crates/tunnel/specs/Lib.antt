@@ -17,6 +17,7 @@ pub mod Laws
 pub mod Numbers
 pub mod PollTimeout
 pub mod Quiet
+pub mod Refusals
 pub mod RingBuffer
 pub mod Settle
 pub mod Settled

@@ -7,6 +7,7 @@ ghost use Rattle.tunnel.specs.declared.control.Control.{Control};
 ghost use Rattle.tunnel.specs.AfterStates.{AfterStates, GreatestLaw, StillLaw, EventLaw, NoneCurrent, ExpiredLaw};
 ghost use Rattle.tunnel.specs.Ahead.{AheadLaw, AheadExample};
 ghost use Rattle.tunnel.specs.Numbers.{NumbersLaw};
+ghost use Rattle.tunnel.specs.Refusals.{RefusalsLaw};
 ghost use Rattle.tunnel.specs.Deadline.{DeadlineLaw};
 ghost use Rattle.tunnel.specs.Settled.{SettleLaw, SettleExample};
 ghost use Rattle.tunnel.specs.Sound.{Sound, SoundLaw, StoreLaw, CreatedLaw};
@@ -96,6 +97,11 @@ pub fn event_law()
 // The number that turns a call down is that of the first of its conditions that fails, in the order 1, 2, 14, 13 and 11.
 pub fn numbers_law()
     ensures { (t : Tunnel) (store : List ℕ) → NumbersLaw t store }
+{}
+
+// Which number turns a handshake message or an early look down that 1, 2, 14, 13 and 11 let through.
+pub fn refusals_law()
+    ensures { (t : Tunnel) (store : List ℕ) → RefusalsLaw t store }
 {}
 
 // Every call that is handed a tunnel which, if expired, has no current session hands back such a one, and so does a creation.
